@@ -1,0 +1,18 @@
+-- No second outcome meets a contract of this crate: `Post` is what the checker reads of the `ensures` clauses of src/.
+-- Assumes nothing.
+use Rattle.measure.specs.OneOutcome.{OneResult, one-outcome}
+use Rattle.fuse.proofs.stored_byte.Kinds as stored-byte-kinds
+use Rattle.fuse.proofs.stored_byte.Reads as stored-byte-reads
+use Rattle.fuse.proofs.level_of.Kinds as level-of-kinds
+use Rattle.fuse.proofs.level_of.Reads as level-of-reads
+use Rattle.fuse.proofs.write_protection_of.Kinds as write-protection-of-kinds
+use Rattle.fuse.proofs.write_protection_of.Reads as write-protection-of-reads
+
+pub stored-byte-unique : OneResult 0 stored-byte-kinds.ps stored-byte-kinds.r stored-byte-reads.Post
+stored-byte-unique κs arguments r r′ e e′ p q = one-outcome p q
+
+pub level-of-unique : OneResult 0 level-of-kinds.ps level-of-kinds.r level-of-reads.Post
+level-of-unique κs arguments r r′ e e′ p q = one-outcome p q
+
+pub write-protection-of-unique : OneResult 0 write-protection-of-kinds.ps write-protection-of-kinds.r write-protection-of-reads.Post
+write-protection-of-unique κs arguments r r′ e e′ p q = one-outcome p q

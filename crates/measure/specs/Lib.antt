@@ -1,0 +1,6 @@
+pub mod Choice
+pub mod Measures
+pub mod Words
+pub mod Promises
+pub mod OneOutcome
+pub mod Examples
