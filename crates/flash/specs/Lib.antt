@@ -1,0 +1,4 @@
+pub mod Parts
+pub mod Operations
+pub mod Promises
+pub mod Examples

@@ -1,0 +1,44 @@
+-- What each function of this crate promises: its answer, and the whole array that it leaves. Assumes nothing.
+use mathlib.Core.Path.{_≡_}
+use mathlib.Core.List.{List}
+use Prim.Native.Nat.{ℕ}
+use lib.ListN.{getD, set}
+use Rattle.measure.specs.Words.{programmedWord, bitsNotSet}
+use Rattle.flash.specs.Operations.{
+  outcome,
+  readWord,
+  programmedWords,
+  rowNotSet,
+  programRow,
+  eraseRange,
+  erasePage,
+  pageOf,
+}
+use Rattle.flash.specs.declared.WordFound.{WordFound}
+use Rattle.flash.specs.declared.RowProgrammed.{RowProgrammed}
+use Rattle.flash.specs.declared.RangeErased.{RangeErased}
+
+abbrev pub ReadWordPromise : List ℕ → ℕ → WordFound → Type 0
+ReadWordPromise flash index result = result ≡ readWord flash index
+
+abbrev pub ProgramRowPromise : List ℕ → ℕ → List ℕ → RowProgrammed → List ℕ → Type 0
+ProgramRowPromise flash index latches result exit = outcome result exit ≡ programRow flash index latches
+
+abbrev pub EraseRangePromise : List ℕ → ℕ → ℕ → RangeErased → List ℕ → Type 0
+EraseRangePromise flash first count result exit = outcome result exit ≡ eraseRange flash first count
+
+abbrev pub ErasePagePromise : List ℕ → ℕ → ℕ → RangeErased → List ℕ → Type 0
+ErasePagePromise flash size index result exit = outcome result exit ≡ erasePage flash size index
+
+abbrev pub PagePromise : List ℕ → ℕ → ℕ → List ℕ → Type 0
+PagePromise flash size index result = result ≡ pageOf flash size index
+
+-- ---- the private functions
+
+pub record ProgramWordPromise (row : List ℕ) (index latch result : ℕ) (exit : List ℕ) : Type 0 where
+  pub not-set : result ≡ bitsNotSet (getD row index 0) latch
+  pub words : exit ≡ set row index (programmedWord (getD row index 0) latch)
+
+pub record ProgramWordsPromise (row latches : List ℕ) (result : ℕ) (exit : List ℕ) : Type 0 where
+  pub not-set : result ≡ rowNotSet row latches
+  pub words : exit ≡ programmedWords row latches

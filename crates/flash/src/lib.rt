@@ -1,0 +1,157 @@
+// One lent flash array and a word index: read, program a row, erase, and the part that is a page.
+ghost use mathlib.Core.Path.{_≡_};
+ghost use Prim.Native.Nat.{_<_, _≤_};
+ghost use lib.ListN.{length, replicate};
+ghost use Rattle.flash.specs.Parts.{fits as fitsIn, startOf, blank};
+ghost use Rattle.flash.specs.Promises.{
+  ReadWordPromise,
+  ProgramWordPromise,
+  ProgramWordsPromise,
+  ProgramRowPromise,
+  EraseRangePromise,
+  ErasePagePromise,
+  PagePromise,
+};
+
+// What reading a word finds.
+pub enum WordFound {
+    Word(u32),
+    NoWord,
+}
+
+// What programming a row comes to.
+pub enum RowProgrammed {
+    BitsNotSet(u32),
+    // The row does not fit the array: nothing changed.
+    NoRow,
+}
+
+// What erasing a range comes to.
+pub enum RangeErased {
+    Blank,
+    // The range does not fit the array: nothing changed.
+    NoRange,
+}
+
+// An erased word.
+const BLANK: u32 = 0xFFFFFF;
+
+// A row's words.
+const ROW: usize = 64;
+
+// Whether count words from first on lie in an array of this length.
+fn fits(length: usize, first: usize, count: usize) -> bool
+    ensures { λ r. ⌜ r ≡ fitsIn length first count ⌝ }
+{
+    if length < count {
+        return false;
+    }
+    first <= length - count
+}
+
+// The first word of the row or page of this size that holds an index.
+fn start_of(size: usize, index: usize) -> usize
+    requires { ⌜ 0 < size ⌝ }
+    ensures { λ r. ⌜ r ≡ startOf size index ⌝ }
+{
+    index - index % size
+}
+
+// The word at an index.
+pub fn read_word(flash: &[u32], index: usize) -> WordFound
+    ensures { λ r. ⌜ ReadWordPromise (now (flash .entry)) index r ⌝ }
+{
+    if index < flash.len() {
+        WordFound::Word(measure::word(flash[index]))
+    } else {
+        WordFound::NoWord
+    }
+}
+
+// One word of a row, from its latch: programmed in place; the value is its bits not set.
+fn program_word(row: &mut [u32], index: usize, latch: u32) -> u32
+    requires { ⌜ index < length (now row) ⌝ }
+    ensures { λ r. ⌜ ProgramWordPromise (now (row .entry)) index latch r (now (row .exit)) ⌝ }
+{
+    let old = row[index];
+    row[index] = measure::programmed_word(old, latch);
+    measure::bits_not_set(old, latch)
+}
+
+// All words of a row, from their latches: programmed in place; the value is the row's bits not set.
+fn program_words(row: &mut [u32], latches: [u32; 64]) -> u32
+    requires { ⌜ length (now row) ≡ 64 ⌝ }
+    ensures { λ r. ⌜ ProgramWordsPromise (now (row .entry)) latches r (now (row .exit)) ⌝ }
+{
+    let mut not_set: u32 = 0;
+    let mut index: usize = 0;
+    while index < ROW {
+        let latch = latches[index];
+        not_set += program_word(row, index, latch);
+        index += 1;
+    }
+    not_set
+}
+
+// The aligned row that holds an index, programmed from the latches.
+pub fn program_row(flash: &mut [u32], index: usize, latches: [u32; 64]) -> RowProgrammed
+    ensures { λ r. ⌜ ProgramRowPromise (now (flash .entry)) index latches r (now (flash .exit)) ⌝ }
+{
+    let first = start_of(ROW, index);
+    if fits(flash.len(), first, ROW) {
+        let end = first + ROW;
+        RowProgrammed::BitsNotSet(program_words(&mut flash[first..end], latches))
+    } else {
+        RowProgrammed::NoRow
+    }
+}
+
+// Every word of a part becomes blank.
+fn fill_blank(words: &mut [u32])
+    ensures { λ _. ⌜ now (words .exit) ≡ replicate (length (now (words .entry))) blank ⌝ }
+{
+    let mut at: usize = 0;
+    while at < words.len() {
+        words[at] = BLANK;
+        at += 1;
+    }
+}
+
+// The count words from first on, erased.
+pub fn erase_range(flash: &mut [u32], first: usize, count: usize) -> RangeErased
+    ensures { λ r. ⌜ EraseRangePromise (now (flash .entry)) first count r (now (flash .exit)) ⌝ }
+{
+    if fits(flash.len(), first, count) {
+        let end = first + count;
+        fill_blank(&mut flash[first..end]);
+        RangeErased::Blank
+    } else {
+        RangeErased::NoRange
+    }
+}
+
+// The page of this size that holds an index, erased.
+pub fn erase_page(flash: &mut [u32], size: usize, index: usize) -> RangeErased
+    ensures { λ r. ⌜ ErasePagePromise (now (flash .entry)) size index r (now (flash .exit)) ⌝ }
+{
+    if size == 0 {
+        return RangeErased::NoRange;
+    }
+    let first = start_of(size, index);
+    erase_range(flash, first, size)
+}
+
+// The page of this size that holds an index, as a part of the array; the empty part at its front where there is none.
+pub fn page(flash: &[u32], size: usize, index: usize) -> &[u32]
+    ensures { λ r. ⌜ PagePromise (now (flash .entry)) size index (now r) ⌝ }
+{
+    if size == 0 {
+        return &flash[..0];
+    }
+    let first = start_of(size, index);
+    if fits(flash.len(), first, size) {
+        let end = first + size;
+        return &flash[first..end];
+    }
+    &flash[..0]
+}
