@@ -10,12 +10,14 @@ use borrow.Author.Tests.{leb-true, leb-false, le-leb, lt-leb}
 use borrow.Rule.Slice.PartMut.{putMid}
 use lib.Dec.{leb}
 use lib.ListN.{length, take, drop, getD, set, replicate, length-take, length-drop, length-replicate, drop-of-length-le}
-use lib.Seq.{take-all, drop-drop}
+use lib.Seq.{take-all, drop-drop, drop-length}
 use Rattle.measure.specs.Words.{programmedWord, bitsNotSet}
 use Rattle.measure.proofs.Laws.{not-set-le}
 use Rattle.flash.specs.Parts.{blank, fits, part, withPart}
-use Rattle.flash.specs.Operations.{outcome, programmedWords, total, rowNotSet}
+use Rattle.flash.specs.Operations.{Outcome, outcome, eraseRange, programmedWords, total, rowNotSet}
 use Rattle.flash.specs.Promises.{ProgramWordsPromise}
+use Rattle.flash.specs.declared.RangeErased.{RangeErased}
+use Rattle.flash.specs.declared.RangeErased.the-variants.{Blank}
 use Rattle.flash.specs.declared.RowProgrammed.the-variants.{BitsNotSet}
 
 -- ---- what fits
@@ -134,3 +136,15 @@ module _ (flash latches : List ℕ) (first : ℕ) (h : first + 64 ≤ length fla
       ap₂ (λ (n : ℕ) (ws : List ℕ). outcome (BitsNotSet n) ws)
       (p .not-set ∙ rw (lent-count flash first 64 h))
       (put-back flash first 64 h (λ ws. programmedWords ws latches) (length-programmed _ latches (part-length flash first 64 h) b) (p .words))
+
+-- ---- a whole array that was erased
+
+whole-range : (flash : List ℕ) → eraseRange flash 0 (length flash) ≡ outcome Blank (replicate (length flash) blank)
+unfolding eraseRange withPart
+whole-range flash =
+    let fit : 0 + length flash ≤ length flash = omega arith in
+    rw (le-leb (0 + length flash) (length flash) fit, length-replicate, zero-add (length flash), drop-length, append-nil)
+
+pub whole-erased : (flash : List ℕ) {answer : RangeErased} {exit : List ℕ} → outcome answer exit ≡ eraseRange flash 0 (length flash)
+    → exit ≡ replicate (length flash) blank
+whole-erased flash e = ap (λ (o : Outcome RangeErased). o .flash) (e ∙ whole-range flash)

@@ -45,3 +45,13 @@ levelOf keys byte = levelOfStored keys (storedByte keys byte)
 -- "Write protection is bit 0 alone."
 unfoldable pub writeProtectionOf : ℕ → WriteProtection
 writeProtectionOf byte = if writable byte then Writable else Protected
+
+-- ---- the two questions that rules ask of a byte's reading
+
+abbrev pub isHigh : Level → Bool
+isHigh None = false
+isHigh High = true
+
+abbrev pub isProtected : WriteProtection → Bool
+isProtected Writable = false
+isProtected Protected = true

@@ -1,5 +1,11 @@
 // What a fuse byte says, FGS and FAS alike.
-ghost use Rattle.fuse.specs.Promises.{StoredBytePromise, LevelOfPromise, WriteProtectionOfPromise};
+ghost use Rattle.fuse.specs.Promises.{
+  StoredBytePromise,
+  LevelOfPromise,
+  WriteProtectionOfPromise,
+  IsHighPromise,
+  IsProtectedPromise,
+};
 ghost use Rattle.fuse.specs.Byte.{maskOf, keyFor};
 ghost use mathlib.Core.Path.{_≡_};
 
@@ -56,5 +62,25 @@ pub fn write_protection_of(byte: u8) -> WriteProtection
         WriteProtection::Writable
     } else {
         WriteProtection::Protected
+    }
+}
+
+// Whether a level is high.
+pub fn is_high(level: Level) -> bool
+    ensures { λ r. ⌜ IsHighPromise level r ⌝ }
+{
+    match level {
+        Level::None => false,
+        Level::High => true,
+    }
+}
+
+// Whether words may not be programmed or erased.
+pub fn is_protected(protection: WriteProtection) -> bool
+    ensures { λ r. ⌜ IsProtectedPromise protection r ⌝ }
+{
+    match protection {
+        WriteProtection::Writable => false,
+        WriteProtection::Protected => true,
     }
 }

@@ -1,0 +1,59 @@
+use Rattle.device.specs.CarryingOut.{erases}
+use borrow.Author.Needs.{needs}
+use Rattle.device.proofs.carrying.erase.Statement.{statement}
+use Rattle.device.proofs.carrying.erase.Tie as tie
+
+enum-told : tie.Need-enum-told
+enum-told c = search needs
+
+erase-page-requires : tie.Need-erase-page-requires
+erase-page-requires c κs = search needs
+
+erase-answer-requires : tie.Need-erase-answer-requires
+erase-answer-requires c κs = search needs
+
+answered-requires : tie.Need-answered-requires
+answered-requires c κs = search needs
+
+enum-told-2 : tie.Need-enum-told-2
+enum-told-2 c = search needs
+
+erase-page-requires-2 : tie.Need-erase-page-requires-2
+erase-page-requires-2 c κs = search needs
+
+erase-answer-requires-2 : tie.Need-erase-answer-requires-2
+erase-answer-requires-2 c κs = search needs
+
+answered-requires-2 : tie.Need-answered-requires-2
+answered-requires-2 c κs = search needs
+
+same-length : tie.Need-same-length
+same-length c = search needs
+
+returns : tie.Need-returns
+unfolding erases
+returns c = rw (c .before .before .before .before .before .before .enum-told .given .1, ← c .before .before .before .before .erase-page .ensures, c .answered .ensures, c .before .erase-answer .ensures)
+
+same-length-2 : tie.Need-same-length-2
+same-length-2 c = search needs
+
+returns-2 : tie.Need-returns-2
+unfolding erases
+returns-2 c = rw (c .before .before .before .before .before .before .enum-told2 .given .1, ← c .before .before .before .before .erase-page2 .ensures, c .answered2 .ensures, c .before .erase-answer2 .ensures)
+
+pub erase-spec : {M : Type 1} → statement M
+erase-spec =
+    tie.close
+    (tie.spec
+    enum-told
+    erase-page-requires
+    erase-answer-requires
+    answered-requires
+    enum-told-2
+    erase-page-requires-2
+    erase-answer-requires-2
+    answered-requires-2
+    same-length
+    returns
+    same-length-2
+    returns-2)

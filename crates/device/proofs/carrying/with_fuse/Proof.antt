@@ -1,0 +1,18 @@
+use borrow.Author.Needs.{needs}
+use Rattle.device.proofs.carrying.with_fuse.Statement.{statement}
+use Rattle.device.proofs.carrying.with_fuse.Tie as tie
+
+enum-told : tie.Need-enum-told
+enum-told c = search needs
+
+enum-told-2 : tie.Need-enum-told-2
+enum-told-2 c = search needs
+
+returns : tie.Need-returns
+returns c = cc
+
+returns-2 : tie.Need-returns-2
+returns-2 c = cc
+
+pub with-fuse-spec : {M : Type 1} → statement M
+with-fuse-spec = tie.close (tie.spec enum-told enum-told-2 returns returns-2)

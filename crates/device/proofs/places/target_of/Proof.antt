@@ -1,0 +1,21 @@
+use Rattle.device.specs.Places.{targetOf}
+use borrow.Author.Needs.{needs}
+use Rattle.device.proofs.places.target_of.Statement.{statement}
+use Rattle.device.proofs.places.target_of.Tie as tie
+
+byte-of-requires : tie.Need-byte-of-requires
+byte-of-requires c κs = search needs
+
+level-of-requires : tie.Need-level-of-requires
+level-of-requires c κs = search needs
+
+write-protection-of-requires : tie.Need-write-protection-of-requires
+write-protection-of-requires c κs = search needs
+
+returns : tie.Need-returns
+unfolding targetOf
+returns c = cc
+
+pub target-of-spec : {M : Type 1} → statement M
+target-of-spec =
+    tie.close (tie.spec byte-of-requires level-of-requires write-protection-of-requires returns)

@@ -1,0 +1,19 @@
+use borrow.Author.Needs.{needs}
+use Rattle.device.proofs.rules.erase_auxiliary.Statement.{statement}
+use Rattle.device.proofs.rules.erase_auxiliary.Tie as tie
+
+from-general-requires : tie.Need-from-general-requires
+from-general-requires c κs = search needs
+
+has-auxiliary-requires : tie.Need-has-auxiliary-requires
+has-auxiliary-requires c κs = search needs
+
+allowed-requires : tie.Need-allowed-requires
+allowed-requires c κs = search needs
+
+returns : tie.Need-returns
+returns c = cc
+
+pub erase-auxiliary-spec : {M : Type 1} → statement M
+erase-auxiliary-spec =
+    tie.close (tie.spec from-general-requires has-auxiliary-requires allowed-requires returns)

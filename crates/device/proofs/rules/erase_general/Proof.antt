@@ -1,0 +1,15 @@
+use borrow.Author.Needs.{needs}
+use Rattle.device.proofs.rules.erase_general.Statement.{statement}
+use Rattle.device.proofs.rules.erase_general.Tie as tie
+
+from-general-requires : tie.Need-from-general-requires
+from-general-requires c κs = search needs
+
+allowed-requires : tie.Need-allowed-requires
+allowed-requires c κs = search needs
+
+returns : tie.Need-returns
+returns c = cc
+
+pub erase-general-spec : {M : Type 1} → statement M
+erase-general-spec = tie.close (tie.spec from-general-requires allowed-requires returns)

@@ -1,0 +1,28 @@
+use borrow.Author.Needs.{needs}
+use Rattle.device.proofs.rules.is_open.Statement.{statement}
+use Rattle.device.proofs.rules.is_open.Tie as tie
+
+level-of-requires : tie.Need-level-of-requires
+level-of-requires c κs = search needs
+
+is-high-requires : tie.Need-is-high-requires
+is-high-requires c κs = search needs
+
+write-protection-of-requires : tie.Need-write-protection-of-requires
+write-protection-of-requires c κs = search needs
+
+is-protected-requires : tie.Need-is-protected-requires
+is-protected-requires c κs = search needs
+
+returns : tie.Need-returns
+returns c = cc
+
+pub is-open-spec : {M : Type 1} → statement M
+is-open-spec =
+    tie.close
+    (tie.spec
+    level-of-requires
+    is-high-requires
+    write-protection-of-requires
+    is-protected-requires
+    returns)

@@ -1,0 +1,34 @@
+use Rattle.device.specs.Rules.{programFas}
+use borrow.Author.Needs.{needs}
+use Rattle.device.proofs.rules.program_fas.Statement.{statement}
+use Rattle.device.proofs.rules.program_fas.Tie as tie
+
+stored-byte-requires : tie.Need-stored-byte-requires
+stored-byte-requires c κs = search needs
+
+has-auxiliary-requires : tie.Need-has-auxiliary-requires
+has-auxiliary-requires c κs = search needs
+
+is-open-requires : tie.Need-is-open-requires
+is-open-requires c κs = search needs
+
+is-open-requires-2 : tie.Need-is-open-requires-2
+is-open-requires-2 c κs = search needs
+
+allowed-requires : tie.Need-allowed-requires
+allowed-requires c κs = search needs
+
+returns : tie.Need-returns
+unfolding programFas
+returns c = cc
+
+pub program-fas-spec : {M : Type 1} → statement M
+program-fas-spec =
+    tie.close
+    (tie.spec
+    stored-byte-requires
+    has-auxiliary-requires
+    is-open-requires
+    is-open-requires-2
+    allowed-requires
+    returns)

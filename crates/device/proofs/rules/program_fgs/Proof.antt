@@ -1,0 +1,21 @@
+use Rattle.device.specs.Rules.{programFgs}
+use borrow.Author.Needs.{needs}
+use Rattle.device.proofs.rules.program_fgs.Statement.{statement}
+use Rattle.device.proofs.rules.program_fgs.Tie as tie
+
+stored-byte-requires : tie.Need-stored-byte-requires
+stored-byte-requires c κs = search needs
+
+releases-requires : tie.Need-releases-requires
+releases-requires c κs = search needs
+
+allowed-requires : tie.Need-allowed-requires
+allowed-requires c κs = search needs
+
+returns : tie.Need-returns
+unfolding programFgs
+returns c = cc
+
+pub program-fgs-spec : {M : Type 1} → statement M
+program-fgs-spec =
+    tie.close (tie.spec stored-byte-requires releases-requires allowed-requires returns)

@@ -1,0 +1,29 @@
+use Rattle.device.specs.Rules.{programIn}
+use borrow.Author.Needs.{needs}
+use Rattle.device.proofs.rules.program_in.Statement.{statement}
+use Rattle.device.proofs.rules.program_in.Tie as tie
+
+enum-told : tie.Need-enum-told
+enum-told c = search needs
+
+enum-known-place : tie.Need-enum-known-place
+enum-known-place c = search needs
+
+may-change-requires : tie.Need-may-change-requires
+may-change-requires c κs = search needs
+
+allowed-requires : tie.Need-allowed-requires
+allowed-requires c κs = search needs
+
+returns : tie.Need-returns
+unfolding programIn
+returns c = cc
+
+returns-2 : tie.Need-returns-2
+unfolding programIn
+returns-2 c = cc
+
+pub program-in-spec : {M : Type 1} → statement M
+program-in-spec =
+    tie.close
+    (tie.spec enum-told enum-known-place may-change-requires allowed-requires returns returns-2)

@@ -1,0 +1,43 @@
+use Rattle.device.specs.Rules.{readIn}
+use borrow.Author.Needs.{needs}
+use Rattle.device.proofs.rules.read_in.Statement.{statement}
+use Rattle.device.proofs.rules.read_in.Tie as tie
+
+enum-told : tie.Need-enum-told
+enum-told c = search needs
+
+enum-known-place : tie.Need-enum-known-place
+enum-known-place c = search needs
+
+segment-of-requires : tie.Need-segment-of-requires
+segment-of-requires c κs = search needs
+
+target-of-requires : tie.Need-target-of-requires
+target-of-requires c κs = search needs
+
+allowed-requires : tie.Need-allowed-requires
+allowed-requires c κs = search needs
+
+allowed-requires-2 : tie.Need-allowed-requires-2
+allowed-requires-2 c κs = search needs
+
+returns : tie.Need-returns
+unfolding readIn
+returns c = cc
+
+returns-2 : tie.Need-returns-2
+unfolding readIn
+returns-2 c = rw (c .before .before .before .before .before .place .given .1, ← c .before .before .before .segment-of .ensures, ← c .before .before .target-of .ensures, ← c .before .allowed .ensures) (c .allowed2 .ensures)
+
+pub read-in-spec : {M : Type 1} → statement M
+read-in-spec =
+    tie.close
+    (tie.spec
+    enum-told
+    enum-known-place
+    segment-of-requires
+    target-of-requires
+    allowed-requires
+    allowed-requires-2
+    returns
+    returns-2)

@@ -1,0 +1,15 @@
+use borrow.Author.Needs.{needs}
+use Rattle.device.proofs.rules.table_write.Statement.{statement}
+use Rattle.device.proofs.rules.table_write.Tie as tie
+
+location-requires : tie.Need-location-requires
+location-requires c κs = search needs
+
+cast-latch : tie.Need-cast-latch
+cast-latch c = search needs
+
+returns : tie.Need-returns
+returns c = cc
+
+pub table-write-spec : {M : Type 1} → statement M
+table-write-spec = tie.close (tie.spec location-requires cast-latch returns)

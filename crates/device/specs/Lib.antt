@@ -1,0 +1,11 @@
+pub mod Descriptions
+pub mod Answers
+pub mod Places
+pub mod Events
+pub mod Rules
+pub mod CarryingOut
+pub mod OneEvent
+pub mod Slots
+pub mod Lists
+pub mod PageView
+pub mod Promises

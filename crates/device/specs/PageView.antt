@@ -1,0 +1,24 @@
+-- Document 01, "Lists, printed table, page view": the page that holds an address. Assumes nothing.
+use Prim.Native.Nat.{ℕ}
+use mathlib.Core.Bool.{Bool, not, _&&_}
+use mathlib.Core.List.{List, []}
+use lib.ListN.{length}
+use Rattle.measure.specs.Choice.{if_then_else_}
+use Rattle.measure.specs.declared.ProgramAddress.{ProgramAddress}
+use Rattle.flash.specs.Operations.{pageOf}
+use Rattle.device.specs.Descriptions.{even, valid, sized}
+use Rattle.device.specs.Places.{placeAt}
+use Rattle.device.specs.CarryingOut.{arrayOf}
+use Rattle.device.specs.declared.Description.{Description}
+use Rattle.device.specs.declared.Place.{Place}
+use Rattle.device.specs.declared.Place.the-variants.{Unimplemented, InArray}
+
+-- "the page holding an address, as a part of whichever flash array has it"
+unfoldable pub pageIn : ℕ → List ℕ → List ℕ → Place → List ℕ
+pageIn page g x Unimplemented = []
+pageIn page g x (InArray array n) = pageOf (arrayOf array g x) page n
+
+-- "Refusals 7 and 8, and unimplemented or odd addresses, all give .. the empty part"
+unfoldable pub pageView : Description → List ℕ → List ℕ → ProgramAddress → List ℕ
+pageView d g x a =
+    if (valid d && sized d (length g) (length x)) && even (a .0) then pageIn (d .page) g x (placeAt d a) else []

@@ -1,0 +1,341 @@
+// The device: description, state, events, answers; one event, a list of events, the lecturer's page view.
+use measure::ProgramAddress;
+use permission::Origin;
+ghost use mathlib.Core.Bool.{true};
+ghost use mathlib.Core.Path.{_≡_};
+ghost use Rattle.device.specs.Descriptions.{valid};
+ghost use Rattle.device.specs.CarryingOut.{leaves};
+ghost use Rattle.device.specs.OneEvent.{eventOn};
+ghost use Rattle.device.specs.Promises.{
+  BenchPromise,
+  NewPromise,
+  NumberPromise,
+  ValuePromise,
+  DecodePromise,
+  StepPromise,
+  RunPromise,
+  PageViewPromise,
+};
+
+mod carrying;
+mod descriptions;
+mod events;
+mod lists;
+mod places;
+mod rules;
+mod vectors;
+mod views;
+
+// What a part is.
+pub struct Description {
+    // The words of a page.
+    pub page: u32,
+    // The pages of the General Segment, vectors included.
+    pub general: u32,
+    // The pages of the Auxiliary Segment.
+    pub auxiliary: u32,
+    // Whether the fuse bytes have key bits.
+    pub keys: bool,
+    // Where an interrupt goes while the Auxiliary Segment's code runs.
+    pub vector: ProgramAddress,
+}
+
+// What a device remembers besides its flash.
+pub struct State {
+    pub pc: ProgramAddress,
+    pub iopuwr: bool,
+    pub stopped: bool,
+    pub fgs: u8,
+    pub fas: u8,
+    pub latches: [u32; 64],
+}
+
+// What happens to a device.
+pub enum Event {
+    Next,
+    FlowChange(ProgramAddress),
+    // An interrupt or a trap, by its vector.
+    Interrupt(u32),
+    TableRead(ProgramAddress),
+    TableWrite(ProgramAddress, u32),
+    ProgramRow(ProgramAddress),
+    ErasePage(ProgramAddress),
+    // Erase GS and VS, and clear FGS.
+    EraseGeneral,
+    // Erase AS, and clear FAS.
+    EraseAuxiliary,
+    ProgramFgs(u8),
+    ProgramFas(u8),
+    PowerOn,
+}
+
+// What three numbers of a list say.
+pub enum Decoded {
+    WellFormed(Event),
+    Malformed,
+}
+
+// What the student sees.
+pub enum Answer {
+    // With the word read, the bits not set, or 0.
+    Done(u32),
+    Zeroed,
+    NotStarted,
+    SecurityReset,
+    AddressTrap,
+    Stopped,
+    MalformedEvent,
+    BadDescription,
+    WrongFlashLength,
+    BadList,
+}
+
+// One of the two lent flash arrays.
+pub enum FlashArray {
+    GeneralArray,
+    AuxiliaryArray,
+}
+
+// Where an instruction location lies: its array, and its index there.
+pub enum Place {
+    Unimplemented,
+    InArray(FlashArray, usize),
+}
+
+// Whose code runs.
+pub enum Running {
+    NotExecutable,
+    Executing(Origin),
+}
+
+// What an event comes to: it is decided first, and then carried out.
+pub enum Decision {
+    // Answer, and change nothing.
+    Refuse(Answer),
+    Trap,
+    Reset,
+    PowerUp,
+    MoveTo(ProgramAddress),
+    // Latch, word.
+    LoadLatch(usize, u32),
+    ReadAt(FlashArray, usize),
+    ProgramAt(FlashArray, usize),
+    EraseAt(FlashArray, usize),
+    // Erase the whole array and clear its fuse byte.
+    EraseWhole(FlashArray),
+    // Store its fuse byte.
+    StoreFuse(FlashArray, u8),
+}
+
+// What one event leaves besides the flash.
+pub struct Stepped {
+    pub answer: Answer,
+    pub state: State,
+}
+
+// What a run leaves besides the flash and the slots: its own answer, and how many events it answered.
+pub struct Ran {
+    pub answer: Answer,
+    pub count: usize,
+    pub state: State,
+}
+
+impl Description {
+    // The bench device's.
+    pub fn bench() -> Self
+        ensures { λ r. ⌜ BenchPromise r ⌝ }
+    {
+        Description {
+            page: 512,
+            general: 10,
+            auxiliary: 4,
+            keys: true,
+            vector: ProgramAddress(0x7FFFEA),
+        }
+    }
+}
+
+impl Answer {
+    // The paper's number of the answer.
+    pub fn number(self) -> u32
+        ensures { λ r. ⌜ NumberPromise self r ⌝ }
+    {
+        match self {
+            Answer::Done(_) => 0,
+            Answer::Zeroed => 1,
+            Answer::NotStarted => 2,
+            Answer::SecurityReset => 3,
+            Answer::AddressTrap => 4,
+            Answer::Stopped => 5,
+            Answer::MalformedEvent => 6,
+            Answer::BadDescription => 7,
+            Answer::WrongFlashLength => 8,
+            Answer::BadList => 9,
+        }
+    }
+
+    // The paper's value of the answer.
+    pub fn value(self) -> u32
+        ensures { λ r. ⌜ ValuePromise self r ⌝ }
+    {
+        match self {
+            Answer::Done(value) => value,
+            Answer::Zeroed => 0,
+            Answer::NotStarted => 0,
+            Answer::SecurityReset => 0,
+            Answer::AddressTrap => 0,
+            Answer::Stopped => 0,
+            Answer::MalformedEvent => 0,
+            Answer::BadDescription => 0,
+            Answer::WrongFlashLength => 0,
+            Answer::BadList => 0,
+        }
+    }
+}
+
+impl State {
+    // A new device's.
+    pub fn new() -> Self
+        ensures { λ r. ⌜ NewPromise r ⌝ }
+    {
+        State {
+            pc: ProgramAddress(0),
+            iopuwr: false,
+            stopped: false,
+            fgs: 0x03,
+            fas: 0x03,
+            latches: [0xFFFFFF; 64],
+        }
+    }
+
+    // A well-formed event on a good device: decided, then carried out.
+    fn event(
+        self,
+        description: Description,
+        general: &mut [u32],
+        auxiliary: &mut [u32],
+        event: Event,
+    ) -> Stepped
+        requires { ⌜ valid description ≡ true ⌝ }
+        ensures { λ r. ⌜ leaves (r .answer) (r .state) (now (general .exit)) (now (auxiliary .exit))
+            ≡ eventOn description self (now (general .entry)) (now (auxiliary .entry)) event ⌝ }
+    {
+        let word = vectors::vector_word(general, event);
+        let pc = self.pc;
+        let decision = rules::decide(
+            description,
+            pc,
+            self.stopped,
+            self.fgs,
+            self.fas,
+            word,
+            event,
+        );
+        carrying::carry_out(
+            description.page as usize,
+            self,
+            decision,
+            general,
+            auxiliary,
+        )
+    }
+
+    // One event: its answer and the state after it; what it leaves in the flash is in the two lent arrays.
+    pub fn step(
+        self,
+        description: Description,
+        general: &mut [u32],
+        auxiliary: &mut [u32],
+        event: Event,
+    ) -> Stepped
+        ensures { λ r. ⌜ StepPromise description self (now (general .entry)) (now (auxiliary .entry)) event
+            (r .answer) (r .state) (now (general .exit)) (now (auxiliary .exit)) ⌝ }
+    {
+        if !descriptions::is_valid(description) {
+            return refused(Answer::BadDescription, self);
+        }
+        if !descriptions::is_sized(description, general.len(), auxiliary.len()) {
+            return refused(Answer::WrongFlashLength, self);
+        }
+        if !events::is_well_formed(event) {
+            return refused(Answer::MalformedEvent, self);
+        }
+        self.event(description, general, auxiliary, event)
+    }
+
+    // A list of events, three numbers each, up to its end, the limit, or the first answer 3 or 4; two slots take each answer.
+    pub fn run(
+        self,
+        description: Description,
+        general: &mut [u32],
+        auxiliary: &mut [u32],
+        list: &[u32],
+        slots: &mut [u32],
+        limit: usize,
+    ) -> Ran
+        ensures { λ r. ⌜ RunPromise description self (now (general .entry)) (now (auxiliary .entry)) (now (list .entry))
+            (now (slots .entry)) limit (r .answer) (r .count) (r .state) (now (general .exit)) (now (auxiliary .exit)) (now (slots .exit)) ⌝ }
+    {
+        if !descriptions::is_valid(description) {
+            return not_run(Answer::BadDescription, self);
+        }
+        if !descriptions::is_sized(description, general.len(), auxiliary.len()) {
+            return not_run(Answer::WrongFlashLength, self);
+        }
+        if !lists::is_good_list(list.len(), slots.len()) {
+            return not_run(Answer::BadList, self);
+        }
+        lists::run_events(self, description, general, auxiliary, list, slots, limit)
+    }
+}
+
+fn refused(answer: Answer, state: State) -> Stepped
+    ensures { λ r. ⌜ r ≡ record { answer = answer; state = state } ⌝ }
+{
+    Stepped { answer, state }
+}
+
+fn not_run(answer: Answer, state: State) -> Ran
+    ensures { λ r. ⌜ r ≡ record { answer = answer; count = 0; state = state } ⌝ }
+{
+    Ran {
+        answer,
+        count: 0,
+        state,
+    }
+}
+
+impl Event {
+    // The event that kind, A and B say.
+    pub fn decode(kind: u32, a: u32, b: u32) -> Decoded
+        ensures { λ r. ⌜ DecodePromise kind a b r ⌝ }
+    {
+        events::decode(kind, a, b)
+    }
+}
+
+// The lecturer's view of the page that holds an address: a part of whichever array has it, or the empty part of the first.
+pub fn page_view<'a>(
+    description: Description,
+    general: &'a [u32],
+    auxiliary: &'a [u32],
+    address: ProgramAddress,
+) -> &'a [u32]
+    ensures { λ r. ⌜ PageViewPromise description (now (general .entry)) (now (auxiliary .entry)) address (now r) ⌝ }
+{
+    if !descriptions::is_valid(description) {
+        return &general[..0];
+    }
+    if !descriptions::is_sized(description, general.len(), auxiliary.len()) {
+        return &general[..0];
+    }
+    if address.0 % 2 != 0 {
+        return &general[..0];
+    }
+    views::page_in(
+        description.page as usize,
+        general,
+        auxiliary,
+        places::place_at(description, address),
+    )
+}

@@ -1,0 +1,135 @@
+// Lists of events: a run, up to its end, the limit, or the first answer 3 or 4.
+use crate::Answer;
+use crate::Decoded;
+use crate::Description;
+use crate::Ran;
+use crate::State;
+use crate::Stepped;
+use crate::events;
+ghost use mathlib.Core.Bool.{true};
+ghost use mathlib.Core.Path.{_≡_};
+ghost use Prim.Native.Nat.{_+_, _*_, _/_, _%_, _<_, _≤_, min};
+ghost use lib.ListN.{length, getD};
+ghost use Rattle.device.specs.Descriptions.{valid};
+ghost use Rattle.device.specs.Events.{decode as decodeOf};
+ghost use Rattle.device.specs.CarryingOut.{leaves};
+ghost use Rattle.device.specs.Lists.{decodedOn, endsRun, traceOf, ranTo, told, goodList};
+ghost use Rattle.device.specs.Slots.{stored};
+
+// The most events of a list.
+const MOST_EVENTS: usize = 4096;
+
+// Whether a list of this length, with so many slots, can be run.
+pub fn is_good_list(list: usize, slots: usize) -> bool
+    ensures { λ r. ⌜ r ≡ goodList list slots ⌝ }
+{
+    let whole = list % 3 == 0;
+    let short = list / 3 <= MOST_EVENTS;
+    let room = list / 3 * 2 <= slots;
+    whole & short & room
+}
+
+fn least(a: usize, b: usize) -> usize
+    ensures { λ r. ⌜ r ≡ min a b ⌝ }
+{
+    if a < b { a } else { b }
+}
+
+fn ends_run(number: u32) -> bool
+    ensures { λ r. ⌜ r ≡ endsRun number ⌝ }
+{
+    (number == 3) | (number == 4)
+}
+
+// What three numbers of a list do to a good device: a malformed event is passed over.
+fn decoded(
+    state: State,
+    description: Description,
+    general: &mut [u32],
+    auxiliary: &mut [u32],
+    decoded: Decoded,
+) -> Stepped
+    requires { ⌜ valid description ≡ true ⌝ }
+    ensures { λ r. ⌜ leaves (r .answer) (r .state) (now (general .exit)) (now (auxiliary .exit))
+        ≡ decodedOn description state (now (general .entry)) (now (auxiliary .entry)) decoded ⌝ }
+{
+    match decoded {
+        Decoded::Malformed => Stepped {
+            answer: Answer::MalformedEvent,
+            state,
+        },
+        Decoded::WellFormed(event) => state.event(description, general, auxiliary, event),
+    }
+}
+
+// The two slots of an event.
+fn store(slots: &mut [u32], index: usize, answer: Answer)
+    requires { ⌜ 2 * index + 1 < length (now slots) ⌝ }
+    ensures { λ _. ⌜ now (slots .exit) ≡ stored (now (slots .entry)) index answer ⌝ }
+{
+    slots[2 * index] = answer.number();
+    slots[2 * index + 1] = answer.value();
+}
+
+// One event of the list: its number and value go into its two slots.
+fn listed(
+    state: State,
+    description: Description,
+    general: &mut [u32],
+    auxiliary: &mut [u32],
+    list: &[u32],
+    slots: &mut [u32],
+    index: usize,
+) -> Stepped
+    requires { ⌜ (valid description ≡ true) × (3 * index + 2 < length (now list)) × (2 * index + 1 < length (now slots)) ⌝ }
+    ensures { λ r. ⌜ leaves (r .answer) (r .state) (now (general .exit)) (now (auxiliary .exit))
+        ≡ decodedOn description state (now (general .entry)) (now (auxiliary .entry))
+        (decodeOf (getD (now (list .entry)) (3 * index) 0) (getD (now (list .entry)) (3 * index + 1) 0) (getD (now (list .entry)) (3 * index + 2) 0)) ⌝
+        ∗ ⌜ now (slots .exit) ≡ stored (now (slots .entry)) index (r .answer) ⌝ }
+{
+    let event = events::decode(list[3 * index], list[3 * index + 1], list[3 * index + 2]);
+    let stepped = decoded(state, description, general, auxiliary, event);
+    let answer = stepped.answer;
+    store(slots, index, answer);
+    stepped
+}
+
+fn ended(count: usize, state: State) -> Ran
+    ensures { λ r. ⌜ r ≡ record { answer = Answer.Done 0; count = count; state = state } ⌝ }
+{
+    Ran {
+        answer: Answer::Done(0),
+        count,
+        state,
+    }
+}
+
+// The events of a list that can be run.
+pub fn run_events(
+    state: State,
+    description: Description,
+    general: &mut [u32],
+    auxiliary: &mut [u32],
+    list: &[u32],
+    slots: &mut [u32],
+    limit: usize,
+) -> Ran
+    requires { ⌜ (valid description ≡ true) × (goodList (length (now list)) (length (now slots)) ≡ true) ⌝ }
+    ensures { λ r. ⌜ ranTo (r .answer) (r .count) (r .state) (now (general .exit)) (now (auxiliary .exit)) (now (slots .exit))
+        ≡ told (now (slots .entry)) (traceOf description limit state (now (general .entry)) (now (auxiliary .entry)) (now (list .entry))) ⌝ }
+{
+    let total = least(limit, list.len() / 3);
+    let mut state = state;
+    let mut index: usize = 0;
+    while index < total {
+        let stepped = listed(state, description, general, auxiliary, list, slots, index);
+        let after = stepped.state;
+        let answer = stepped.answer;
+        state = after;
+        index += 1;
+        if ends_run(answer.number()) {
+            return ended(index, state);
+        }
+    }
+    ended(index, state)
+}

@@ -1,0 +1,17 @@
+// The lecturer's page view.
+use crate::FlashArray;
+use crate::Place;
+ghost use mathlib.Core.Path.{_≡_};
+ghost use Rattle.device.specs.PageView.{pageIn};
+
+pub fn page_in<'a>(page: usize, general: &'a [u32], auxiliary: &'a [u32], place: Place) -> &'a [u32]
+    ensures { λ r. ⌜ now r ≡ pageIn page (now (general .entry)) (now (auxiliary .entry)) place ⌝ }
+{
+    match place {
+        Place::Unimplemented => &general[..0],
+        Place::InArray(array, index) => match array {
+            FlashArray::GeneralArray => flash::page(general, page, index),
+            FlashArray::AuxiliaryArray => flash::page(auxiliary, page, index),
+        },
+    }
+}
