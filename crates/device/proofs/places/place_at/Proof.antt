@@ -9,7 +9,7 @@ place-of-requires : tie.Need-place-of-requires
 place-of-requires c κs = search needs
 
 returns : tie.Need-returns
-returns c = cc
+returns c = rw (← c .before .location .ensures) (c .place-of .ensures)
 
 pub place-at-spec : {M : Type 1} → statement M
 place-at-spec = tie.close (tie.spec location-requires place-of-requires returns)

@@ -14,7 +14,7 @@ write-protection-of-requires c κs = search needs
 
 returns : tie.Need-returns
 unfolding targetOf
-returns c = cc
+returns c = rw (← c .before .before .byte-of .ensures, ← c .before .level-of .ensures, ← c .write-protection-of .ensures)
 
 pub target-of-spec : {M : Type 1} → statement M
 target-of-spec =

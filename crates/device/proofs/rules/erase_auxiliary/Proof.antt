@@ -12,7 +12,7 @@ allowed-requires : tie.Need-allowed-requires
 allowed-requires c κs = search needs
 
 returns : tie.Need-returns
-returns c = cc
+returns c = rw (← c .before .before .from-general .ensures, ← c .before .has-auxiliary .ensures) (c .allowed .ensures)
 
 pub erase-auxiliary-spec : {M : Type 1} → statement M
 erase-auxiliary-spec =

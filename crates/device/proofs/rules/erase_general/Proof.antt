@@ -9,7 +9,7 @@ allowed-requires : tie.Need-allowed-requires
 allowed-requires c κs = search needs
 
 returns : tie.Need-returns
-returns c = cc
+returns c = rw (← c .before .from-general .ensures) (c .allowed .ensures)
 
 pub erase-general-spec : {M : Type 1} → statement M
 erase-general-spec = tie.close (tie.spec from-general-requires allowed-requires returns)

@@ -9,7 +9,7 @@ erase-in-requires : tie.Need-erase-in-requires
 erase-in-requires c κs = search needs
 
 returns : tie.Need-returns
-returns c = cc
+returns c = rw (← c .before .place-at .ensures) (c .erase-in .ensures)
 
 pub erase-page-spec : {M : Type 1} → statement M
 erase-page-spec = tie.close (tie.spec place-at-requires erase-in-requires returns)

@@ -15,7 +15,7 @@ is-protected-requires : tie.Need-is-protected-requires
 is-protected-requires c κs = search needs
 
 returns : tie.Need-returns
-returns c = cc
+returns c = rw (← c .before .before .before .level-of .ensures, ← c .before .before .is-high .ensures, ← c .before .write-protection-of .ensures, ← c .is-protected .ensures)
 
 pub is-open-spec : {M : Type 1} → statement M
 is-open-spec =

@@ -15,7 +15,7 @@ allowed-requires : tie.Need-allowed-requires
 allowed-requires c κs = search needs
 
 returns : tie.Need-returns
-returns c = cc
+returns c = rw (← c .before .before .segment-of .ensures, ← c .before .target-of .ensures) (c .allowed .ensures)
 
 pub may-change-spec : {M : Type 1} → statement M
 may-change-spec =

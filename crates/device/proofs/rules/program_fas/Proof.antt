@@ -20,7 +20,7 @@ allowed-requires c κs = search needs
 
 returns : tie.Need-returns
 unfolding programFas
-returns c = cc
+returns c = rw (← c .before .before .before .before .stored-byte .ensures, ← c .before .before .before .has-auxiliary .ensures, ← c .before .before .is-open .ensures, ← c .before .is-open2 .ensures) (c .allowed .ensures)
 
 pub program-fas-spec : {M : Type 1} → statement M
 program-fas-spec =

@@ -14,7 +14,7 @@ allowed-requires c κs = search needs
 
 returns : tie.Need-returns
 unfolding programFgs
-returns c = cc
+returns c = rw (← c .before .before .stored-byte .ensures, ← c .before .releases .ensures) (c .allowed .ensures)
 
 pub program-fgs-spec : {M : Type 1} → statement M
 program-fgs-spec =

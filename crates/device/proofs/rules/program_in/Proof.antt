@@ -17,11 +17,11 @@ allowed-requires c κs = search needs
 
 returns : tie.Need-returns
 unfolding programIn
-returns c = cc
+returns c = rw (c .enum-told .given .1)
 
 returns-2 : tie.Need-returns-2
 unfolding programIn
-returns-2 c = cc
+returns-2 c = rw (c .before .before .before .place .given .1, ← c .before .may-change .ensures) (c .allowed .ensures)
 
 pub program-in-spec : {M : Type 1} → statement M
 program-in-spec =

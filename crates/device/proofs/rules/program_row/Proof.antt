@@ -9,7 +9,7 @@ program-in-requires : tie.Need-program-in-requires
 program-in-requires c κs = search needs
 
 returns : tie.Need-returns
-returns c = cc
+returns c = rw (← c .before .place-at .ensures) (c .program-in .ensures)
 
 pub program-row-spec : {M : Type 1} → statement M
 program-row-spec = tie.close (tie.spec place-at-requires program-in-requires returns)

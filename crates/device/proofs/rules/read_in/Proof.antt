@@ -23,7 +23,7 @@ allowed-requires-2 c κs = search needs
 
 returns : tie.Need-returns
 unfolding readIn
-returns c = cc
+returns c = rw (c .enum-told .given .1)
 
 returns-2 : tie.Need-returns-2
 unfolding readIn

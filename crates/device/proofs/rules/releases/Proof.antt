@@ -27,7 +27,7 @@ is-protected-requires-2 : tie.Need-is-protected-requires-2
 is-protected-requires-2 c κs = search needs
 
 returns : tie.Need-returns
-returns c = cc
+returns c = rw (← c .before .before .before .before .before .before .before .level-of .ensures, ← c .before .before .before .before .before .before .is-high .ensures, ← c .before .before .before .before .before .level-of2 .ensures, ← c .before .before .before .before .is-high2 .ensures, ← c .before .before .before .write-protection-of .ensures, ← c .before .before .is-protected .ensures, ← c .before .write-protection-of2 .ensures, ← c .is-protected2 .ensures)
 
 pub releases-spec : {M : Type 1} → statement M
 releases-spec =

@@ -9,7 +9,7 @@ read-in-requires : tie.Need-read-in-requires
 read-in-requires c κs = search needs
 
 returns : tie.Need-returns
-returns c = cc
+returns c = rw (← c .before .place-at .ensures) (c .read-in .ensures)
 
 pub table-read-spec : {M : Type 1} → statement M
 table-read-spec = tie.close (tie.spec place-at-requires read-in-requires returns)
