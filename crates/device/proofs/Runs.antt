@@ -14,7 +14,7 @@ use Rattle.measure.specs.Choice.{if_then_else_}
 use Rattle.device.specs.Answers.{numberOf, valueOf}
 use Rattle.device.specs.Events.{decode}
 use Rattle.device.specs.CarryingOut.{Left, leaves}
-use Rattle.device.specs.Slots.{stored}
+use Rattle.device.specs.Slots.{eventAt, stored}
 use Rattle.device.specs.Lists.{decodedOn, endsRun, Trace, noEvent, andThen, traceOf, RunLeft, ranTo, told, goodList}
 use Rattle.device.specs.declared.Description.{Description}
 use Rattle.device.specs.declared.State.{State}
@@ -78,7 +78,7 @@ trace-end d limit i s g x list m h =
 
 module _ (d : Description) (limit total i : ℕ) (s : State) (g x list slots : List ℕ) (answer : Answer) (s′ : State) (g′ x′ slots′ : List ℕ)
     (whole : RunLeft) (test : i < total) (least : total ≡ min limit (length list / 3)) (threes : length list % 3 ≡ 0)
-    (e : leaves answer s′ g′ x′ ≡ decodedOn d s g x (decode (getD list (3 * i) 0) (getD list (3 * i + 1) 0) (getD list (3 * i + 2) 0)))
+    (e : leaves answer s′ g′ x′ ≡ decodedOn d s g x (eventAt list i))
     (es : slots′ ≡ stored slots i answer)
     (inv : joined i slots (traceOf d (limit - i) s g x (drop (3 * i) list)) ≡ whole) where
   rest : Trace

@@ -15,7 +15,16 @@ use Rattle.device.specs.declared.Stepped.{Stepped}
 use Rattle.device.specs.declared.Ran.{Ran}
 use Rattle.device.specs.declared.Answer.{Answer}
 use Rattle.device.specs.declared.Answer.the-variants.{
-    Done, Zeroed, NotStarted, SecurityReset, AddressTrap, Stopped, MalformedEvent, BadDescription, WrongFlashLength, BadList
+  Done,
+  Zeroed,
+  NotStarted,
+  SecurityReset,
+  AddressTrap,
+  Stopped,
+  MalformedEvent,
+  BadDescription,
+  WrongFlashLength,
+  BadList,
 }
 use Rattle.device.proofs.Description.bench.Kinds as bench-kinds
 use Rattle.device.proofs.Description.bench.Reads as bench-reads

@@ -9,3 +9,4 @@ pub mod Slots
 pub mod Lists
 pub mod PageView
 pub mod Promises
+pub mod Cases

@@ -1,9 +1,15 @@
--- The two slots of an event. Assumes nothing.
+-- The three numbers and the two slots of the event of one index. Assumes nothing.
 use Prim.Native.Nat.{ℕ, _+_, _*_}
 use mathlib.Core.List.{List}
-use lib.ListN.{set}
+use lib.ListN.{getD, set}
 use Rattle.device.specs.Answers.{numberOf, valueOf}
+use Rattle.device.specs.Events.{decode}
 use Rattle.device.specs.declared.Answer.{Answer}
+use Rattle.device.specs.declared.Decoded.{Decoded}
+
+-- what the three numbers of the event of this index say
+abbrev pub eventAt : List ℕ → ℕ → Decoded
+eventAt list index = decode (getD list (3 * index) 0) (getD list (3 * index + 1) 0) (getD list (3 * index + 2) 0)
 
 -- its number and its value, in the two slots of the event of this index
 abbrev pub stored : List ℕ → ℕ → Answer → List ℕ

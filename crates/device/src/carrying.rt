@@ -31,6 +31,9 @@ ghost use Rattle.device.specs.CarryingOut.{
   clears as clearsOf,
 };
 
+// A fuse byte that was cleared: level none, writable.
+const CLEARED: u8 = 0x03;
+
 fn with_pc(state: State, pc: ProgramAddress) -> State
     ensures { λ r. ⌜ r ≡ withPc state pc ⌝ }
 {
@@ -236,12 +239,12 @@ fn clear(array: FlashArray, state: State, general: &mut [u32], auxiliary: &mut [
         FlashArray::GeneralArray => {
             let words = general.len();
             flash::erase_range(general, 0, words);
-            answered(Answer::Done(0), with_fuse(state, array, 0x03))
+            answered(Answer::Done(0), with_fuse(state, array, CLEARED))
         }
         FlashArray::AuxiliaryArray => {
             let words = auxiliary.len();
             flash::erase_range(auxiliary, 0, words);
-            answered(Answer::Done(0), with_fuse(state, array, 0x03))
+            answered(Answer::Done(0), with_fuse(state, array, CLEARED))
         }
     }
 }

@@ -9,12 +9,11 @@ use crate::events;
 ghost use mathlib.Core.Bool.{true};
 ghost use mathlib.Core.Path.{_≡_};
 ghost use Prim.Native.Nat.{_+_, _*_, _/_, _%_, _<_, _≤_, min};
-ghost use lib.ListN.{length, getD};
+ghost use lib.ListN.{length};
 ghost use Rattle.device.specs.Descriptions.{valid};
-ghost use Rattle.device.specs.Events.{decode as decodeOf};
 ghost use Rattle.device.specs.CarryingOut.{leaves};
 ghost use Rattle.device.specs.Lists.{decodedOn, endsRun, traceOf, ranTo, told, goodList};
-ghost use Rattle.device.specs.Slots.{stored};
+ghost use Rattle.device.specs.Slots.{eventAt, stored};
 
 // The most events of a list.
 const MOST_EVENTS: usize = 4096;
@@ -62,6 +61,14 @@ fn decoded(
     }
 }
 
+// The event of this index, from its three numbers.
+fn event_at(list: &[u32], index: usize) -> Decoded
+    requires { ⌜ 3 * index + 2 < length (now list) ⌝ }
+    ensures { λ r. ⌜ r ≡ eventAt (now (list .entry)) index ⌝ }
+{
+    events::decode(list[3 * index], list[3 * index + 1], list[3 * index + 2])
+}
+
 // The two slots of an event.
 fn store(slots: &mut [u32], index: usize, answer: Answer)
     requires { ⌜ 2 * index + 1 < length (now slots) ⌝ }
@@ -83,11 +90,10 @@ fn listed(
 ) -> Stepped
     requires { ⌜ (valid description ≡ true) × (3 * index + 2 < length (now list)) × (2 * index + 1 < length (now slots)) ⌝ }
     ensures { λ r. ⌜ leaves (r .answer) (r .state) (now (general .exit)) (now (auxiliary .exit))
-        ≡ decodedOn description state (now (general .entry)) (now (auxiliary .entry))
-        (decodeOf (getD (now (list .entry)) (3 * index) 0) (getD (now (list .entry)) (3 * index + 1) 0) (getD (now (list .entry)) (3 * index + 2) 0)) ⌝
+        ≡ decodedOn description state (now (general .entry)) (now (auxiliary .entry)) (eventAt (now (list .entry)) index) ⌝
         ∗ ⌜ now (slots .exit) ≡ stored (now (slots .entry)) index (r .answer) ⌝ }
 {
-    let event = events::decode(list[3 * index], list[3 * index + 1], list[3 * index + 2]);
+    let event = event_at(list, index);
     let stepped = decoded(state, description, general, auxiliary, event);
     let answer = stepped.answer;
     store(slots, index, answer);

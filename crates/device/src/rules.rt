@@ -173,7 +173,8 @@ fn may_change(
 ) -> bool
     ensures { λ r. ⌜ r ≡ mayChange description fgs fas origin array index ⌝ }
 {
-    let segment = places::segment_of(description.page as usize, array, index);
+    let vectors = description.page as usize;
+    let segment = places::segment_of(vectors, array, index);
     let target = places::target_of(description.keys, fgs, fas, segment);
     permission::allowed(Operation::Program, origin, target)
 }

@@ -1,9 +1,10 @@
+-- `rules::may_change` meets its contract. Assumes nothing.
 use borrow.Author.Needs.{needs}
 use Rattle.device.proofs.rules.may_change.Statement.{statement}
 use Rattle.device.proofs.rules.may_change.Tie as tie
 
-cast-segment-of : tie.Need-cast-segment-of
-cast-segment-of c = search needs
+cast-vectors : tie.Need-cast-vectors
+cast-vectors c = search needs
 
 segment-of-requires : tie.Need-segment-of-requires
 segment-of-requires c κs = search needs
@@ -20,4 +21,4 @@ returns c = rw (← c .before .before .segment-of .ensures, ← c .before .targe
 pub may-change-spec : {M : Type 1} → statement M
 may-change-spec =
     tie.close
-    (tie.spec cast-segment-of segment-of-requires target-of-requires allowed-requires returns)
+    (tie.spec cast-vectors segment-of-requires target-of-requires allowed-requires returns)

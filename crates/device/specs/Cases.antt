@@ -1,0 +1,139 @@
+-- Document 01, "Marked points": all cases with P, as one table, and one statement over it. Assumes nothing.
+use Prim.Native.Nat.{ℕ, _%_}
+use mathlib.Core.Path.{_≡_, refl}
+use mathlib.Core.Bool.{Bool, true, false}
+use mathlib.Core.List.{List, [], _∷_, map, zipWith}
+use lib.ListN.{getD, set, replicate}
+use Rattle.measure.specs.Measures.{address, locationOf}
+use Rattle.measure.specs.Words.{andOf, notSetOf, programmedWord, bitsNotSet}
+use Rattle.fuse.specs.Byte.{storedByte, wrongKey, levelOf, writeProtectionOf}
+use Rattle.fuse.specs.declared.Level.{Level}
+use Rattle.fuse.specs.declared.Level.the-variants.{None, High}
+use Rattle.fuse.specs.declared.WriteProtection.{WriteProtection}
+use Rattle.fuse.specs.declared.WriteProtection.the-variants.{Writable, Protected}
+use Rattle.permission.specs.Table.{rowOf, allows}
+use Rattle.flash.specs.Parts.{blank, withPart}
+use Rattle.flash.specs.Operations.{readWord, programmedWords, total, rowNotSet, programRowAt, eraseRange, erasePage}
+use Rattle.device.specs.Descriptions.{valid, generalWords, auxiliaryWords, bench}
+use Rattle.device.specs.Places.{placeOf, running, targetOf}
+use Rattle.device.specs.Events.{wellFormed}
+use Rattle.device.specs.Rules.{isShut, flowChange, readIn, programIn, eraseIn, ownRule, ruleFrom, decide}
+use Rattle.device.specs.CarryingOut.{Left, blankLatches, programs, erases, carryOut}
+use Rattle.device.specs.OneEvent.{eventOn, step}
+use Rattle.device.specs.declared.State.{State}
+use Rattle.device.specs.declared.Event.{Event}
+use Rattle.device.specs.declared.Event.the-variants.{FlowChange, TableRead, ProgramRow, ErasePage}
+
+-- ---- a case
+
+-- the bench device before an event: a new one but for its PC, its fuse bytes, the word at one address of the GS array, and
+-- the latch of that address
+pub record Device : Type 0 where
+  pub pc : ℕ
+  pub fgs : ℕ
+  pub fas : ℕ
+  pub at : ℕ
+  pub word : ℕ
+  pub latch : ℕ
+
+-- what is seen of the event: the answer's number and value, the PC afterwards, and the word that then stands at the address
+pub record Seen : Type 0 where
+  pub number : ℕ
+  pub value : ℕ
+  pub pc : ℕ
+  pub word : ℕ
+
+pub data Case : Type 0 where
+  -- a fuse byte: its level, whether its key is wrong, its write protection
+  ByteCase : ℕ → Level → Bool → WriteProtection → Case
+  -- an old word and a latch: the word programmed, the bits not set
+  WordCase : ℕ → ℕ → ℕ → ℕ → Case
+  -- an event on a device: what is seen of it
+  EventCase : Device → Event → Seen → Case
+
+-- ---- what the definitions say of a case
+
+abbrev pub indexOf : Device → ℕ
+indexOf device = locationOf (address (device .at)) .0
+
+abbrev pub stateOf : Device → State
+stateOf device =
+    record {
+      pc = address (device .pc);
+      iopuwr = false;
+      stopped = false;
+      fgs = device .fgs;
+      fas = device .fas;
+      latches = set blankLatches (indexOf device % 64) (device .latch);
+    }
+
+abbrev pub generalOf : Device → List ℕ
+generalOf device = set (replicate (generalWords bench) blank) (indexOf device) (device .word)
+
+abbrev pub auxiliary : List ℕ
+auxiliary = replicate (auxiliaryWords bench) blank
+
+abbrev pub seenOf : Device → Left → Seen
+seenOf device left =
+    record {
+      number = left .number;
+      value = left .value;
+      pc = left .state .pc .0;
+      word = getD (left .general) (indexOf device) 0;
+    }
+
+-- the case, with what the definitions compute in the place of what it says
+unfoldable pub computed : Case → Case
+computed (ByteCase byte level wrong protection) =
+    ByteCase byte (levelOf (bench .keys) byte) (wrongKey (bench .keys) (storedByte (bench .keys) byte)) (writeProtectionOf byte)
+computed (WordCase old latch programmed unset) = WordCase old latch (programmedWord old latch) (bitsNotSet old latch)
+computed (EventCase device event says) =
+    EventCase device event (seenOf device (step bench (stateOf device) (generalOf device) auxiliary event))
+
+-- ---- the table
+
+-- GS or AS high, by PC and address; a word that is not blank stands there, so that a change shows
+abbrev pub generalHigh : ℕ → ℕ → Device
+generalHigh pc at = record { pc = pc; fgs = 0x31; fas = 0x03; at = at; word = 0x123456; latch = blank }
+
+abbrev pub auxiliaryHigh : ℕ → ℕ → Device
+auxiliaryHigh pc at = record { pc = pc; fgs = 0x03; fas = 0x31; at = at; word = 0x123456; latch = blank }
+
+-- nothing high, by PC, address, word there and latch
+abbrev pub latched : ℕ → ℕ → ℕ → ℕ → Device
+latched pc at word latch = record { pc = pc; fgs = 0x03; fas = 0x03; at = at; word = word; latch = latch }
+
+-- by number, value, PC, word
+abbrev pub sees : ℕ → ℕ → ℕ → ℕ → Seen
+sees number value pc word = record { number = number; value = value; pc = pc; word = word }
+
+unfoldable pub marked : List Case
+marked =
+    -- "bytes 0x03 and 0xC3: none, writable. 0x32: none, protected. 0x31: high, writable. 0x30: high, protected."
+    ByteCase 0x03 None false Writable
+    ∷ ByteCase 0xC3 None false Writable
+    ∷ ByteCase 0x32 None false Protected
+    ∷ ByteCase 0x31 High false Writable
+    ∷ ByteCase 0x30 High false Protected
+    -- "bytes 0x33 and 0x13: high by key, writable. 0x02: high by key, protected."
+    ∷ ByteCase 0x33 High true Writable
+    ∷ ByteCase 0x13 High true Writable
+    ∷ ByteCase 0x02 High true Protected
+    -- "AS high, PC 0x000400: flow to 0x7FFFBE answers 3, to 0x7FFFC0 answers 0." "AS high means FAS 0x31."
+    ∷ EventCase (auxiliaryHigh 0x000400 0x000400) (FlowChange (address 0x7FFFBE)) (sees 3 0 0x000000 0x123456)
+    ∷ EventCase (auxiliaryHigh 0x000400 0x000400) (FlowChange (address 0x7FFFC0)) (sees 0 0 0x7FFFC0 0x123456)
+    -- "FGS 0x31, PC 0x7FF000: read 0x0001FE gives the word, 0x000200 answers 1."
+    ∷ EventCase (generalHigh 0x7FF000 0x0001FE) (TableRead (address 0x0001FE)) (sees 0 0x123456 0x7FF000 0x123456)
+    ∷ EventCase (generalHigh 0x7FF000 0x000200) (TableRead (address 0x000200)) (sees 1 0 0x7FF000 0x123456)
+    -- "FGS 0x31, PC 0x000400: erase page at 0x0003FE answers 2, at 0x000400 answers 0."
+    ∷ EventCase (generalHigh 0x000400 0x0003FE) (ErasePage (address 0x0003FE)) (sees 2 0 0x000400 0x123456)
+    ∷ EventCase (generalHigh 0x000400 0x000400) (ErasePage (address 0x000400)) (sees 0 0 0x000400 0xFFFFFF)
+    -- "word 0x0000F0, latch 0x0000FF: result 0x0000F0, 4 bits not set": of the word, and of a row that has it
+    ∷ WordCase 0x0000F0 0x0000FF 0x0000F0 4
+    ∷ EventCase (latched 0x000400 0x000612 0x0000F0 0x0000FF) (ProgramRow (address 0x000612)) (sees 0 4 0x000400 0x0000F0)
+    ∷ []
+
+-- The definitions say of every case what document 01 says.
+pub marked-points : map computed marked ≡ marked
+unfolding computed marked isShut levelOf storedByte andOf writeProtectionOf notSetOf step valid wellFormed eventOn decide running placeOf ruleFrom ownRule flowChange readIn programIn eraseIn targetOf allows rowOf carryOut programs erases readWord programRowAt programmedWords rowNotSet total zipWith eraseRange erasePage withPart
+marked-points = refl
