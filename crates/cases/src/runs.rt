@@ -179,6 +179,11 @@ fn print_ends() {
         &[1, 0, 0, 2, 0x7FF000, 0, 1, 0, 0],
         100,
     );
+    show(
+        b"AS is high security: from GS, a jump within GS, a read of AS, a jump just below its last 32 locations",
+        &[2, 0x000500, 0, 4, 0x7FF000, 0, 2, 0x7FFFBE, 0],
+        4096,
+    );
 }
 
 // The second slot of an event has its value.

@@ -1,3 +1,8 @@
+-- `carrying::erase` meets its contract. Assumes nothing.
+use mathlib.Core.Path.{ap}
+use Rattle.flash.specs.Operations.{Outcome}
+use Rattle.flash.specs.declared.RangeErased.{RangeErased}
+use Rattle.device.specs.CarryingOut.{leaves, eraseAnswer}
 use Rattle.device.specs.CarryingOut.{erases}
 use borrow.Author.Needs.{needs}
 use Rattle.device.proofs.carrying.erase.Statement.{statement}
@@ -32,14 +37,20 @@ same-length c = search needs
 
 returns : tie.Need-returns
 unfolding erases
-returns c = rw (c .before .before .before .before .before .before .enum-told .given .1, ← c .before .before .before .before .erase-page .ensures, c .answered .ensures, c .before .erase-answer .ensures)
+returns c =
+    let a = c .before .before .before .before .before .before .before .before .before .before .args in
+    rw (c .before .before .before .before .before .before .enum-told .given .1, c .answered .ensures, c .before .erase-answer .ensures)
+    (ap (λ (erased : Outcome RangeErased). leaves (eraseAnswer (erased .answer)) (a .state) (erased .flash) (a .auxiliary .now)) (c .before .before .before .before .erase-page .ensures))
 
 same-length-2 : tie.Need-same-length-2
 same-length-2 c = search needs
 
 returns-2 : tie.Need-returns-2
 unfolding erases
-returns-2 c = rw (c .before .before .before .before .before .before .enum-told2 .given .1, ← c .before .before .before .before .erase-page2 .ensures, c .answered2 .ensures, c .before .erase-answer2 .ensures)
+returns-2 c =
+    let a = c .before .before .before .before .before .before .before .before .before .before .args in
+    rw (c .before .before .before .before .before .before .enum-told2 .given .1, c .answered2 .ensures, c .before .erase-answer2 .ensures)
+    (ap (λ (erased : Outcome RangeErased). leaves (eraseAnswer (erased .answer)) (a .state) (a .general .now) (erased .flash)) (c .before .before .before .before .erase-page2 .ensures))
 
 pub erase-spec : {M : Type 1} → statement M
 erase-spec =

@@ -1,3 +1,4 @@
+-- `descriptions::good_vector` meets its contract. Assumes nothing.
 use borrow.Author.Needs.{needs}
 use Rattle.device.proofs.descriptions.good_vector.Statement.{statement}
 use Rattle.device.proofs.descriptions.good_vector.Tie as tie

@@ -1,3 +1,4 @@
+-- `descriptions::is_sized` meets its contract. Assumes nothing.
 use borrow.Author.Needs.{needs}
 use Rattle.device.proofs.descriptions.is_sized.Statement.{statement}
 use Rattle.device.proofs.descriptions.is_sized.Tie as tie

@@ -1,3 +1,4 @@
+-- `descriptions::is_valid` meets its contract. Assumes nothing.
 use Rattle.device.specs.Descriptions.{valid}
 use borrow.Author.Needs.{needs}
 use Rattle.device.proofs.descriptions.is_valid.Statement.{statement}

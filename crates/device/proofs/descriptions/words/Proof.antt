@@ -1,3 +1,4 @@
+-- `descriptions::words` meets its contract. Assumes nothing.
 use Prim.Native.Nat.{_^_}
 use Rattle.device.proofs.Laws.{product-lt}
 use borrow.Author.Needs.{needs}

@@ -1,3 +1,4 @@
+-- `events::given` meets its contract. Assumes nothing.
 use borrow.Author.Needs.{needs}
 use Rattle.device.proofs.events.given.Statement.{statement}
 use Rattle.device.proofs.events.given.Tie as tie

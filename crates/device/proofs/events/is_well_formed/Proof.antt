@@ -1,3 +1,4 @@
+-- `events::is_well_formed` meets its contract. Assumes nothing.
 use Rattle.device.specs.Events.{wellFormed}
 use borrow.Author.Needs.{needs}
 use Rattle.device.proofs.events.is_well_formed.Statement.{statement}

@@ -1,3 +1,4 @@
+-- `places::place_at` meets its contract. Assumes nothing.
 use borrow.Author.Needs.{needs}
 use Rattle.device.proofs.places.place_at.Statement.{statement}
 use Rattle.device.proofs.places.place_at.Tie as tie

@@ -1,3 +1,4 @@
+-- `places::place_of` meets its contract. Assumes nothing.
 use Prim.Native.Nat.{_*_, _≤_}
 use native.Mathlib.Omega.{arith}
 use borrow.Author.Tests.{leb-true}

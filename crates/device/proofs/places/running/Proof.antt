@@ -1,3 +1,4 @@
+-- `places::running` meets its contract. Assumes nothing.
 use borrow.Author.Tests.{eq-eqb, ne-eqb}
 use Rattle.device.specs.Places.{running}
 use borrow.Author.Needs.{needs}

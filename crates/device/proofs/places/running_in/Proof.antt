@@ -1,3 +1,4 @@
+-- `places::running_in` meets its contract. Assumes nothing.
 use borrow.Author.Needs.{needs}
 use Rattle.device.proofs.places.running_in.Statement.{statement}
 use Rattle.device.proofs.places.running_in.Tie as tie

@@ -1,3 +1,4 @@
+-- `places::segment_of` meets its contract. Assumes nothing.
 use borrow.Author.Tests.{lt-ltb, le-ltb}
 use borrow.Author.Needs.{needs}
 use Rattle.device.proofs.places.segment_of.Statement.{statement}

@@ -1,3 +1,4 @@
+-- `places::target_of` meets its contract. Assumes nothing.
 use Rattle.device.specs.Places.{targetOf}
 use borrow.Author.Needs.{needs}
 use Rattle.device.proofs.places.target_of.Statement.{statement}

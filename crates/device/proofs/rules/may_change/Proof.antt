@@ -16,7 +16,7 @@ allowed-requires : tie.Need-allowed-requires
 allowed-requires c κs = search needs
 
 returns : tie.Need-returns
-returns c = rw (← c .before .before .segment-of .ensures, ← c .before .target-of .ensures) (c .allowed .ensures)
+returns c = rw (c .before .target-of .ensures, c .before .before .segment-of .ensures) at (c .allowed .ensures)
 
 pub may-change-spec : {M : Type 1} → statement M
 may-change-spec =

@@ -1,3 +1,4 @@
+-- `rules::read_in` meets its contract. Assumes nothing.
 use Rattle.device.specs.Rules.{readIn}
 use borrow.Author.Needs.{needs}
 use Rattle.device.proofs.rules.read_in.Statement.{statement}
@@ -27,7 +28,7 @@ returns c = rw (c .enum-told .given .1)
 
 returns-2 : tie.Need-returns-2
 unfolding readIn
-returns-2 c = rw (c .before .before .before .before .before .place .given .1, ← c .before .before .before .segment-of .ensures, ← c .before .before .target-of .ensures, ← c .before .allowed .ensures) (c .allowed2 .ensures)
+returns-2 c = rw (c .before .before .before .before .before .place .given .1) (rw (c .before .allowed .ensures, c .before .before .target-of .ensures, c .before .before .before .segment-of .ensures) at (c .allowed2 .ensures))
 
 pub read-in-spec : {M : Type 1} → statement M
 read-in-spec =
