@@ -9,4 +9,5 @@ pub mod Slots
 pub mod Lists
 pub mod PageView
 pub mod Promises
+pub mod StepByStep
 pub mod Cases
