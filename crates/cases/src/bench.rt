@@ -1,9 +1,9 @@
 // The bench device, and a case on it: an event, and its line.
 use crate::lines;
-use device::Description;
-use device::Event;
 use device::State;
+use event::Event;
 use measure::ProgramAddress;
+use part::Description;
 
 // The words of the bench device's arrays.
 pub const GENERAL: usize = 5120;

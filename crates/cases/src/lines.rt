@@ -1,7 +1,7 @@
 // What a line shows.
 use device::Answer;
-use device::Event;
 use device::State;
+use event::Event;
 use libc::STDOUT_FILENO;
 use measure::ProgramAddress;
 

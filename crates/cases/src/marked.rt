@@ -1,10 +1,10 @@
 // Document 01, "Marked points": those that are not proved.
 use crate::bench;
 use crate::lines;
-use device::Description;
-use device::Event;
 use device::State;
+use event::Event;
 use measure::ProgramAddress;
+use part::Description;
 
 pub fn print() {
     lines::print(b"Marked points\n");

@@ -1,7 +1,7 @@
 // Document 01, "Easy to get wrong".
 use crate::bench;
 use crate::lines;
-use device::Event;
+use event::Event;
 use measure::ProgramAddress;
 
 pub fn print() {

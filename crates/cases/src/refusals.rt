@@ -1,9 +1,9 @@
 // Document 01, "What the student sees": the refusals of one event, and the order in which they are looked for.
 use crate::bench;
 use crate::lines;
-use device::Description;
-use device::Event;
+use event::Event;
 use measure::ProgramAddress;
+use part::Description;
 
 pub fn print() {
     lines::print(b"\nRefusals\n");

@@ -1,8 +1,8 @@
 // Document 01, "Lists": runs over lists of events, three numbers each.
 use crate::bench;
 use crate::lines;
-use device::Description;
 use device::State;
+use part::Description;
 
 // What stands in a slot before a run.
 const UNTOUCHED: u32 = 99;

@@ -1,8 +1,8 @@
 // Document 01, the lecturer's page view.
 use crate::bench;
 use crate::lines;
-use device::Description;
 use measure::ProgramAddress;
+use part::Description;
 
 pub fn print() {
     lines::print(b"\nPage view\n");

@@ -17,16 +17,17 @@ use Rattle.measure.specs.Words.{wordOf}
 use Rattle.flash.specs.Operations.{readWord}
 use Rattle.flash.specs.declared.WordFound.the-variants.{Word, NoWord}
 use Rattle.permission.specs.declared.Origin.{Origin}
-use Rattle.device.specs.Descriptions.{even, goodPage, goodGeneral, goodAuxiliary, goodVector, valid, generalWords, auxiliaryWords}
+use Rattle.measure.specs.Measures.{even}
+use Rattle.part.specs.Descriptions.{goodPage, goodGeneral, goodAuxiliary, goodVector, valid, generalWords, auxiliaryWords}
 use Rattle.device.specs.CarryingOut.{wordOrZero}
-use Rattle.device.specs.Places.{vectorWords, auxiliaryEnd, auxiliaryFirst, placeOf, placeAt, isImplemented, runningIn, running}
-use Rattle.device.specs.Events.{goodByte, given}
-use Rattle.device.specs.declared.Description.{Description}
-use Rattle.device.specs.declared.Event.{Event}
-use Rattle.device.specs.declared.Place.{Place}
-use Rattle.device.specs.declared.Place.the-variants.{Unimplemented, InArray}
-use Rattle.device.specs.declared.Running.{Running}
-use Rattle.device.specs.declared.Running.the-variants.{NotExecutable, Executing}
+use Rattle.part.specs.Places.{vectorWords, auxiliaryEnd, auxiliaryFirst, placeOf, placeAt, isImplemented, runningIn, running}
+use Rattle.event.specs.Events.{goodByte, given}
+use Rattle.part.specs.declared.Description.{Description}
+use Rattle.event.specs.declared.Event.{Event}
+use Rattle.part.specs.declared.Place.{Place}
+use Rattle.part.specs.declared.Place.the-variants.{Unimplemented, InArray}
+use Rattle.part.specs.declared.Running.{Running}
+use Rattle.part.specs.declared.Running.the-variants.{NotExecutable, Executing}
 
 pub and-left : (a b : Bool) → (a && b) ≡ true → a ≡ true
 and-left true b e = refl
@@ -35,13 +36,6 @@ and-left false b e = absurd (false≢true e)
 pub and-right : (a b : Bool) → (a && b) ≡ true → b ≡ true
 and-right true b e = e
 and-right false b e = absurd (false≢true e)
-
--- the product of two 32-bit numbers has 64 bits
-pub product-lt : {a b : ℕ} → a < 2 ^ 32 → b < 2 ^ 32 → a * b < 2 ^ 64
-product-lt {a} {b} p q =
-    let a-le : a ≤ 2 ^ 32 - 1 = omega arith in
-    let b-le : b ≤ 2 ^ 32 - 1 = omega arith in
-    lt-of-le-of-lt (mul-le-mul a-le b-le) (lit< tt)
 
 module _ (d : Description) (v : valid d ≡ true) where
   -- the four parts of a good description
@@ -119,15 +113,6 @@ module _ (d : Description) (v : valid d ≡ true) where
     where
       Low : Running → Type 0
       Low r = r ≡ Executing origin → pc .0 < 0x800000
-
--- ---- a byte of a list
-
-pub given-byte : (event : ℕ → Event) (a b : ℕ) → given (goodByte a && eqb b 0) (event (a % 256)) ≡ given (goodByte a && eqb b 0) (event a)
-given-byte event a b = go (ltb a 256) refl
-  where
-    go : (t : Bool) → ltb a 256 ≡ t → given (ltb a 256 && eqb b 0) (event (a % 256)) ≡ given (ltb a 256 && eqb b 0) (event a)
-    go true e = rw (mod-eq-of-lt (ltb-true a 256 e))
-    go false e = rw e
 
 -- ---- the word of a vector
 

@@ -12,11 +12,11 @@ use lib.ListN.{length, getD, set, drop, drop-of-length-le}
 use lib.Seq.{drop-cons, sets, sets-eq}
 use Rattle.measure.specs.Choice.{if_then_else_}
 use Rattle.device.specs.Answers.{numberOf, valueOf}
-use Rattle.device.specs.Events.{decode}
+use Rattle.event.specs.Events.{decode}
 use Rattle.device.specs.CarryingOut.{Left, leaves}
 use Rattle.device.specs.Slots.{eventAt, stored}
 use Rattle.device.specs.Lists.{decodedOn, endsRun, Trace, noEvent, andThen, traceOf, RunLeft, ranTo, told, goodList}
-use Rattle.device.specs.declared.Description.{Description}
+use Rattle.part.specs.declared.Description.{Description}
 use Rattle.device.specs.declared.State.{State}
 use Rattle.device.specs.declared.Answer.{Answer}
 use Rattle.device.specs.declared.Answer.the-variants.{Done}

@@ -26,25 +26,18 @@ use Rattle.device.specs.declared.Answer.the-variants.{
   WrongFlashLength,
   BadList,
 }
-use Rattle.device.proofs.Description.bench.Kinds as bench-kinds
-use Rattle.device.proofs.Description.bench.Reads as bench-reads
 use Rattle.device.proofs.State.new.Kinds as new-kinds
 use Rattle.device.proofs.State.new.Reads as new-reads
 use Rattle.device.proofs.Answer.number.Kinds as number-kinds
 use Rattle.device.proofs.Answer.number.Reads as number-reads
 use Rattle.device.proofs.Answer.value.Kinds as value-kinds
 use Rattle.device.proofs.Answer.value.Reads as value-reads
-use Rattle.device.proofs.Event.decode.Kinds as decode-kinds
-use Rattle.device.proofs.Event.decode.Reads as decode-reads
 use Rattle.device.proofs.State.step.Kinds as step-kinds
 use Rattle.device.proofs.State.step.Reads as step-reads
 use Rattle.device.proofs.State.run.Kinds as run-kinds
 use Rattle.device.proofs.State.run.Reads as run-reads
 use Rattle.device.proofs.page_view.Kinds as page-view-kinds
 use Rattle.device.proofs.page_view.Reads as page-view-reads
-
-pub bench-unique : OneResult 0 bench-kinds.ps bench-kinds.r bench-reads.Post
-bench-unique κs arguments r r′ e e′ p q = one-outcome p q
 
 pub new-unique : OneResult 0 new-kinds.ps new-kinds.r new-reads.Post
 new-unique κs arguments r r′ e e′ p q = one-outcome p q
@@ -54,9 +47,6 @@ number-unique κs arguments r r′ e e′ p q = one-outcome p q
 
 pub value-unique : OneResult 0 value-kinds.ps value-kinds.r value-reads.Post
 value-unique κs arguments r r′ e e′ p q = one-outcome p q
-
-pub decode-unique : OneResult 0 decode-kinds.ps decode-kinds.r decode-reads.Post
-decode-unique κs arguments r r′ e e′ p q = one-outcome p q
 
 -- ---- an answer is known by its number and value, so a promise that speaks of these fixes the answer itself
 

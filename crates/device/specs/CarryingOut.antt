@@ -18,8 +18,8 @@ use Rattle.device.specs.Answers.{numberOf, valueOf}
 use Rattle.device.specs.declared.State.{State}
 use Rattle.device.specs.declared.Answer.{Answer}
 use Rattle.device.specs.declared.Answer.the-variants.{Done, Zeroed, NotStarted, SecurityReset, AddressTrap}
-use Rattle.device.specs.declared.FlashArray.{FlashArray}
-use Rattle.device.specs.declared.FlashArray.the-variants.{GeneralArray, AuxiliaryArray}
+use Rattle.part.specs.declared.FlashArray.{FlashArray}
+use Rattle.part.specs.declared.FlashArray.the-variants.{GeneralArray, AuxiliaryArray}
 use Rattle.device.specs.declared.Decision.{Decision}
 use Rattle.device.specs.declared.Decision.the-variants.{
   Refuse,

@@ -14,15 +14,15 @@ use Rattle.fuse.specs.declared.WriteProtection.the-variants.{Writable, Protecte
 use Rattle.permission.specs.Table.{rowOf, allows}
 use Rattle.flash.specs.Parts.{blank, withPart}
 use Rattle.flash.specs.Operations.{readWord, programmedWords, total, rowNotSet, programRowAt, eraseRange, erasePage}
-use Rattle.device.specs.Descriptions.{valid, generalWords, auxiliaryWords, bench}
-use Rattle.device.specs.Places.{placeOf, running, targetOf}
-use Rattle.device.specs.Events.{wellFormed}
+use Rattle.part.specs.Descriptions.{valid, generalWords, auxiliaryWords, bench}
+use Rattle.part.specs.Places.{placeOf, running, targetOf}
+use Rattle.event.specs.Events.{wellFormed}
 use Rattle.device.specs.Rules.{isShut, flowChange, readIn, programIn, eraseIn, ownRule, ruleFrom, decide}
 use Rattle.device.specs.CarryingOut.{Left, blankLatches, programs, erases, carryOut}
 use Rattle.device.specs.OneEvent.{eventOn, step}
 use Rattle.device.specs.declared.State.{State}
-use Rattle.device.specs.declared.Event.{Event}
-use Rattle.device.specs.declared.Event.the-variants.{FlowChange, TableRead, ProgramRow, ErasePage}
+use Rattle.event.specs.declared.Event.{Event}
+use Rattle.event.specs.declared.Event.the-variants.{FlowChange, TableRead, ProgramRow, ErasePage}
 
 -- ---- a case
 

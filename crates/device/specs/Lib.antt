@@ -1,7 +1,4 @@
-pub mod Descriptions
 pub mod Answers
-pub mod Places
-pub mod Events
 pub mod Rules
 pub mod CarryingOut
 pub mod OneEvent

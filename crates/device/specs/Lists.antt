@@ -5,17 +5,17 @@ use mathlib.Core.List.{List, [], _∷_, _++_}
 use lib.Dec.{eqb, leb}
 use lib.ListN.{length, drop}
 use Rattle.measure.specs.Choice.{if_then_else_}
-use Rattle.device.specs.Descriptions.{valid, sized}
+use Rattle.part.specs.Descriptions.{valid, sized}
 use Rattle.device.specs.Answers.{numberOf, valueOf}
-use Rattle.device.specs.Events.{decode}
+use Rattle.event.specs.Events.{decode}
 use Rattle.device.specs.CarryingOut.{Left, leaves}
 use Rattle.device.specs.OneEvent.{eventOn}
-use Rattle.device.specs.declared.Description.{Description}
+use Rattle.part.specs.declared.Description.{Description}
 use Rattle.device.specs.declared.State.{State}
 use Rattle.device.specs.declared.Answer.{Answer}
 use Rattle.device.specs.declared.Answer.the-variants.{Done, MalformedEvent, BadDescription, WrongFlashLength, BadList}
-use Rattle.device.specs.declared.Decoded.{Decoded}
-use Rattle.device.specs.declared.Decoded.the-variants.{WellFormed, Malformed}
+use Rattle.event.specs.declared.Decoded.{Decoded}
+use Rattle.event.specs.declared.Decoded.the-variants.{WellFormed, Malformed}
 
 -- "Malformed events are answered and passed over."
 unfoldable pub decodedOn : Description → State → List ℕ → List ℕ → Decoded → Left

@@ -6,15 +6,15 @@ use lib.ListN.{length, take, getD, replicate}
 use Rattle.measure.specs.Choice.{if_then_else_}
 use Rattle.measure.specs.Measures.{address}
 use Rattle.measure.specs.Words.{wordOf}
-use Rattle.device.specs.Descriptions.{valid, sized}
-use Rattle.device.specs.Places.{vectorWords}
-use Rattle.device.specs.Events.{wellFormed}
+use Rattle.part.specs.Descriptions.{valid, sized}
+use Rattle.part.specs.Places.{vectorWords}
+use Rattle.event.specs.Events.{wellFormed}
 use Rattle.device.specs.Rules.{decide}
 use Rattle.device.specs.CarryingOut.{Left, leaves, blankLatches, carryOut}
-use Rattle.device.specs.declared.Description.{Description}
+use Rattle.part.specs.declared.Description.{Description}
 use Rattle.device.specs.declared.State.{State}
-use Rattle.device.specs.declared.Event.{Event}
-use Rattle.device.specs.declared.Event.the-variants.{
+use Rattle.event.specs.declared.Event.{Event}
+use Rattle.event.specs.declared.Event.the-variants.{
   Next,
   FlowChange,
   Interrupt,

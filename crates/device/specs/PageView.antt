@@ -6,12 +6,13 @@ use lib.ListN.{length}
 use Rattle.measure.specs.Choice.{if_then_else_}
 use Rattle.measure.specs.declared.ProgramAddress.{ProgramAddress}
 use Rattle.flash.specs.Operations.{pageOf}
-use Rattle.device.specs.Descriptions.{even, valid, sized}
-use Rattle.device.specs.Places.{placeAt}
+use Rattle.measure.specs.Measures.{even}
+use Rattle.part.specs.Descriptions.{valid, sized}
+use Rattle.part.specs.Places.{placeAt}
 use Rattle.device.specs.CarryingOut.{arrayOf}
-use Rattle.device.specs.declared.Description.{Description}
-use Rattle.device.specs.declared.Place.{Place}
-use Rattle.device.specs.declared.Place.the-variants.{Unimplemented, InArray}
+use Rattle.part.specs.declared.Description.{Description}
+use Rattle.part.specs.declared.Place.{Place}
+use Rattle.part.specs.declared.Place.the-variants.{Unimplemented, InArray}
 
 -- "the page holding an address, as a part of whichever flash array has it"
 unfoldable pub pageIn : ℕ → List ℕ → List ℕ → Place → List ℕ

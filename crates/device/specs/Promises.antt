@@ -3,21 +3,15 @@ use mathlib.Core.Path.{_≡_}
 use mathlib.Core.List.{List}
 use Prim.Native.Nat.{ℕ}
 use Rattle.measure.specs.declared.ProgramAddress.{ProgramAddress}
-use Rattle.device.specs.Descriptions.{bench}
 use Rattle.device.specs.Answers.{numberOf, valueOf}
-use Rattle.device.specs.Events.{decode}
 use Rattle.device.specs.CarryingOut.{leaves}
 use Rattle.device.specs.OneEvent.{newState, step}
 use Rattle.device.specs.Lists.{ranTo, run}
 use Rattle.device.specs.PageView.{pageView}
-use Rattle.device.specs.declared.Description.{Description}
+use Rattle.part.specs.declared.Description.{Description}
 use Rattle.device.specs.declared.State.{State}
-use Rattle.device.specs.declared.Event.{Event}
-use Rattle.device.specs.declared.Decoded.{Decoded}
+use Rattle.event.specs.declared.Event.{Event}
 use Rattle.device.specs.declared.Answer.{Answer}
-
-abbrev pub BenchPromise : Description → Type 0
-BenchPromise result = result ≡ bench
 
 abbrev pub NewPromise : State → Type 0
 NewPromise result = result ≡ newState
@@ -27,9 +21,6 @@ NumberPromise self result = result ≡ numberOf self
 
 abbrev pub ValuePromise : Answer → ℕ → Type 0
 ValuePromise self result = result ≡ valueOf self
-
-abbrev pub DecodePromise : ℕ → ℕ → ℕ → Decoded → Type 0
-DecodePromise kind a b result = result ≡ decode kind a b
 
 -- the answer's number and value, the state, and both arrays at exit
 abbrev pub StepPromise : Description → State → List ℕ → List ℕ → Event → Answer → State → List ℕ → List ℕ → Type 0

@@ -13,11 +13,12 @@ use Rattle.permission.specs.declared.Operation.{Operation}
 use Rattle.permission.specs.declared.Operation.the-variants.{Program, Read}
 use Rattle.permission.specs.declared.Origin.{Origin}
 use Rattle.permission.specs.declared.Origin.the-variants.{FromGeneral, FromAuxiliary}
-use Rattle.device.specs.Descriptions.{even, hasAuxiliary}
-use Rattle.device.specs.Places.{auxiliaryEnd, placeAt, isImplemented, isAuxiliary, vectorWords, running, fromGeneral, segmentOf, targetOf}
-use Rattle.device.specs.declared.Description.{Description}
-use Rattle.device.specs.declared.Event.{Event}
-use Rattle.device.specs.declared.Event.the-variants.{
+use Rattle.measure.specs.Measures.{even}
+use Rattle.part.specs.Descriptions.{hasAuxiliary}
+use Rattle.part.specs.Places.{auxiliaryEnd, placeAt, isImplemented, isAuxiliary, vectorWords, running, fromGeneral, segmentOf, targetOf}
+use Rattle.part.specs.declared.Description.{Description}
+use Rattle.event.specs.declared.Event.{Event}
+use Rattle.event.specs.declared.Event.the-variants.{
   Next,
   FlowChange,
   Interrupt,
@@ -33,12 +34,12 @@ use Rattle.device.specs.declared.Event.the-variants.{
 }
 use Rattle.device.specs.declared.Answer.{Answer}
 use Rattle.device.specs.declared.Answer.the-variants.{Zeroed, NotStarted, Stopped}
-use Rattle.device.specs.declared.FlashArray.{FlashArray}
-use Rattle.device.specs.declared.FlashArray.the-variants.{GeneralArray, AuxiliaryArray}
-use Rattle.device.specs.declared.Place.{Place}
-use Rattle.device.specs.declared.Place.the-variants.{Unimplemented, InArray}
-use Rattle.device.specs.declared.Running.{Running}
-use Rattle.device.specs.declared.Running.the-variants.{NotExecutable, Executing}
+use Rattle.part.specs.declared.FlashArray.{FlashArray}
+use Rattle.part.specs.declared.FlashArray.the-variants.{GeneralArray, AuxiliaryArray}
+use Rattle.part.specs.declared.Place.{Place}
+use Rattle.part.specs.declared.Place.the-variants.{Unimplemented, InArray}
+use Rattle.part.specs.declared.Running.{Running}
+use Rattle.part.specs.declared.Running.the-variants.{NotExecutable, Executing}
 use Rattle.device.specs.declared.Decision.{Decision}
 use Rattle.device.specs.declared.Decision.the-variants.{
   Refuse,

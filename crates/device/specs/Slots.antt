@@ -3,9 +3,9 @@ use Prim.Native.Nat.{ℕ, _+_, _*_}
 use mathlib.Core.List.{List}
 use lib.ListN.{getD, set}
 use Rattle.device.specs.Answers.{numberOf, valueOf}
-use Rattle.device.specs.Events.{decode}
+use Rattle.event.specs.Events.{decode}
 use Rattle.device.specs.declared.Answer.{Answer}
-use Rattle.device.specs.declared.Decoded.{Decoded}
+use Rattle.event.specs.declared.Decoded.{Decoded}
 
 -- what the three numbers of the event of this index say
 abbrev pub eventAt : List ℕ → ℕ → Decoded

@@ -7,14 +7,14 @@ use lib.Dec.{eqb, ltb, leb}
 use lib.ListN.{length}
 use Rattle.measure.specs.Choice.{if_then_else_}
 use Rattle.measure.specs.Measures.{address}
-use Rattle.device.specs.Descriptions.{valid, sized}
-use Rattle.device.specs.Events.{goodAddress, goodWord, goodByte, goodVector, wellFormed, given, decode}
+use Rattle.part.specs.Descriptions.{valid, sized}
+use Rattle.event.specs.Events.{goodAddress, goodWord, goodByte, goodVector, wellFormed, given, decode}
 use Rattle.device.specs.OneEvent.{eventOn, step}
 use Rattle.device.specs.Lists.{decodedOn}
-use Rattle.device.specs.declared.Description.{Description}
+use Rattle.part.specs.declared.Description.{Description}
 use Rattle.device.specs.declared.State.{State}
-use Rattle.device.specs.declared.Event.{Event}
-use Rattle.device.specs.declared.Event.the-variants.{
+use Rattle.event.specs.declared.Event.{Event}
+use Rattle.event.specs.declared.Event.the-variants.{
   Next,
   FlowChange,
   Interrupt,
@@ -28,8 +28,8 @@ use Rattle.device.specs.declared.Event.the-variants.{
   ProgramFas,
   PowerOn,
 }
-use Rattle.device.specs.declared.Decoded.{Decoded}
-use Rattle.device.specs.declared.Decoded.the-variants.{WellFormed, Malformed}
+use Rattle.event.specs.declared.Decoded.{Decoded}
+use Rattle.event.specs.declared.Decoded.the-variants.{WellFormed, Malformed}
 
 -- where it says an event, that event is well-formed
 abbrev pub Sound : Decoded → Type 0

@@ -1,13 +1,13 @@
 // Carrying out: what a decision does to the state and the two lent arrays.
 use crate::Answer;
 use crate::Decision;
-use crate::FlashArray;
 use crate::State;
 use crate::Stepped;
 use flash::RangeErased;
 use flash::RowProgrammed;
 use flash::WordFound;
 use measure::ProgramAddress;
+use part::FlashArray;
 ghost use mathlib.Core.Path.{_≡_};
 ghost use lib.ListN.{set};
 ghost use Rattle.flash.specs.Operations.{readWord, programRow, erasePage};

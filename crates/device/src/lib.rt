@@ -1,44 +1,27 @@
 // The device: description, state, events, answers; one event, a list of events, the lecturer's page view.
+use event::Event;
 use measure::ProgramAddress;
-use permission::Origin;
+use part::Description;
+use part::FlashArray;
 ghost use mathlib.Core.Bool.{true};
 ghost use mathlib.Core.Path.{_≡_};
-ghost use Rattle.device.specs.Descriptions.{valid};
+ghost use Rattle.part.specs.Descriptions.{valid};
 ghost use Rattle.device.specs.CarryingOut.{leaves};
 ghost use Rattle.device.specs.OneEvent.{eventOn};
 ghost use Rattle.device.specs.Promises.{
-  BenchPromise,
   NewPromise,
   NumberPromise,
   ValuePromise,
-  DecodePromise,
   StepPromise,
   RunPromise,
   PageViewPromise,
 };
 
 mod carrying;
-mod descriptions;
-mod events;
 mod lists;
-mod places;
 mod rules;
 mod vectors;
 mod views;
-
-// What a part is.
-pub struct Description {
-    // The words of a page.
-    pub page: u32,
-    // The pages of the General Segment, vectors included.
-    pub general: u32,
-    // The pages of the Auxiliary Segment.
-    pub auxiliary: u32,
-    // Whether the fuse bytes have key bits.
-    pub keys: bool,
-    // Where an interrupt goes while the Auxiliary Segment's code runs.
-    pub vector: ProgramAddress,
-}
 
 // What a device remembers besides its flash.
 pub struct State {
@@ -48,31 +31,6 @@ pub struct State {
     pub fgs: u8,
     pub fas: u8,
     pub latches: [u32; 64],
-}
-
-// What happens to a device.
-pub enum Event {
-    Next,
-    FlowChange(ProgramAddress),
-    // An interrupt or a trap, by its vector.
-    Interrupt(u32),
-    TableRead(ProgramAddress),
-    TableWrite(ProgramAddress, u32),
-    ProgramRow(ProgramAddress),
-    ErasePage(ProgramAddress),
-    // Erase GS and VS, and clear FGS.
-    EraseGeneral,
-    // Erase AS, and clear FAS.
-    EraseAuxiliary,
-    ProgramFgs(u8),
-    ProgramFas(u8),
-    PowerOn,
-}
-
-// What three numbers of a list say.
-pub enum Decoded {
-    WellFormed(Event),
-    Malformed,
 }
 
 // What the student sees.
@@ -88,24 +46,6 @@ pub enum Answer {
     BadDescription,
     WrongFlashLength,
     BadList,
-}
-
-// One of the two lent flash arrays.
-pub enum FlashArray {
-    GeneralArray,
-    AuxiliaryArray,
-}
-
-// Where an instruction location lies: its array, and its index there.
-pub enum Place {
-    Unimplemented,
-    InArray(FlashArray, usize),
-}
-
-// Whose code runs.
-pub enum Running {
-    NotExecutable,
-    Executing(Origin),
 }
 
 // What an event comes to: it is decided first, and then carried out.
@@ -138,21 +78,6 @@ pub struct Ran {
     pub answer: Answer,
     pub count: usize,
     pub state: State,
-}
-
-impl Description {
-    // The bench device's.
-    pub fn bench() -> Self
-        ensures { λ r. ⌜ BenchPromise r ⌝ }
-    {
-        Description {
-            page: 512,
-            general: 10,
-            auxiliary: 4,
-            keys: true,
-            vector: ProgramAddress(0x7FFFEA),
-        }
-    }
 }
 
 impl Answer {
@@ -251,13 +176,13 @@ impl State {
         ensures { λ r. ⌜ StepPromise description self (now (general .entry)) (now (auxiliary .entry)) event
             (r .answer) (r .state) (now (general .exit)) (now (auxiliary .exit)) ⌝ }
     {
-        if !descriptions::is_valid(description) {
+        if !part::is_valid(description) {
             return refused(Answer::BadDescription, self);
         }
-        if !descriptions::is_sized(description, general.len(), auxiliary.len()) {
+        if !part::is_sized(description, general.len(), auxiliary.len()) {
             return refused(Answer::WrongFlashLength, self);
         }
-        if !events::is_well_formed(event) {
+        if !event::is_well_formed(event) {
             return refused(Answer::MalformedEvent, self);
         }
         self.event(description, general, auxiliary, event)
@@ -276,10 +201,10 @@ impl State {
         ensures { λ r. ⌜ RunPromise description self (now (general .entry)) (now (auxiliary .entry)) (now (list .entry))
             (now (slots .entry)) limit (r .answer) (r .count) (r .state) (now (general .exit)) (now (auxiliary .exit)) (now (slots .exit)) ⌝ }
     {
-        if !descriptions::is_valid(description) {
+        if !part::is_valid(description) {
             return not_run(Answer::BadDescription, self);
         }
-        if !descriptions::is_sized(description, general.len(), auxiliary.len()) {
+        if !part::is_sized(description, general.len(), auxiliary.len()) {
             return not_run(Answer::WrongFlashLength, self);
         }
         if !lists::is_good_list(list.len(), slots.len()) {
@@ -305,15 +230,6 @@ fn not_run(answer: Answer, state: State) -> Ran
     }
 }
 
-impl Event {
-    // The event that kind, A and B say.
-    pub fn decode(kind: u32, a: u32, b: u32) -> Decoded
-        ensures { λ r. ⌜ DecodePromise kind a b r ⌝ }
-    {
-        events::decode(kind, a, b)
-    }
-}
-
 // The lecturer's view of the page that holds an address: a part of whichever array has it, or the empty part of the first.
 pub fn page_view<'a>(
     description: Description,
@@ -323,10 +239,10 @@ pub fn page_view<'a>(
 ) -> &'a [u32]
     ensures { λ r. ⌜ PageViewPromise description (now (general .entry)) (now (auxiliary .entry)) address (now r) ⌝ }
 {
-    if !descriptions::is_valid(description) {
+    if !part::is_valid(description) {
         return &general[..0];
     }
-    if !descriptions::is_sized(description, general.len(), auxiliary.len()) {
+    if !part::is_sized(description, general.len(), auxiliary.len()) {
         return &general[..0];
     }
     if address.0 % 2 != 0 {
@@ -336,6 +252,6 @@ pub fn page_view<'a>(
         description.page as usize,
         general,
         auxiliary,
-        places::place_at(description, address),
+        part::place_at(description, address),
     )
 }

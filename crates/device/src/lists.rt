@@ -1,16 +1,15 @@
 // Lists of events: a run, up to its end, the limit, or the first answer 3 or 4.
 use crate::Answer;
-use crate::Decoded;
-use crate::Description;
 use crate::Ran;
 use crate::State;
 use crate::Stepped;
-use crate::events;
+use event::Decoded;
+use part::Description;
 ghost use mathlib.Core.Bool.{true};
 ghost use mathlib.Core.Path.{_≡_};
 ghost use Prim.Native.Nat.{_+_, _*_, _/_, _%_, _<_, _≤_, min};
 ghost use lib.ListN.{length};
-ghost use Rattle.device.specs.Descriptions.{valid};
+ghost use Rattle.part.specs.Descriptions.{valid};
 ghost use Rattle.device.specs.CarryingOut.{leaves};
 ghost use Rattle.device.specs.Lists.{decodedOn, endsRun, traceOf, ranTo, told, goodList};
 ghost use Rattle.device.specs.Slots.{eventAt, stored};
@@ -66,7 +65,7 @@ fn event_at(list: &[u32], index: usize) -> Decoded
     requires { ⌜ 3 * index + 2 < length (now list) ⌝ }
     ensures { λ r. ⌜ r ≡ eventAt (now (list .entry)) index ⌝ }
 {
-    events::decode(list[3 * index], list[3 * index + 1], list[3 * index + 2])
+    event::decode(list[3 * index], list[3 * index + 1], list[3 * index + 2])
 }
 
 // The two slots of an event.

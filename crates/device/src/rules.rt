@@ -1,21 +1,19 @@
 // The rules: what each event comes to. Nothing here looks at flash but for the one vector word, which is handed in.
 use crate::Answer;
 use crate::Decision;
-use crate::Description;
-use crate::Event;
-use crate::FlashArray;
-use crate::Place;
-use crate::Running;
 use crate::State;
-use crate::descriptions;
-use crate::places;
+use event::Event;
 use measure::ProgramAddress;
+use part::Description;
+use part::FlashArray;
+use part::Place;
+use part::Running;
 use permission::Operation;
 use permission::Origin;
 ghost use mathlib.Core.Bool.{true};
 ghost use mathlib.Core.Path.{_≡_};
 ghost use Prim.Native.Nat.{_<_};
-ghost use Rattle.device.specs.Descriptions.{valid};
+ghost use Rattle.part.specs.Descriptions.{valid};
 ghost use Rattle.device.specs.Rules.{
   allowed as allowedOr,
   next as nextRule,
@@ -57,11 +55,11 @@ fn allowed(test: bool, decision: Decision, answer: Answer) -> Decision
 
 // Rule 1.
 fn next(description: Description, pc: ProgramAddress) -> Decision
-    requires { ⌜ (valid description ≡ true) × (pc .0 < 0x800000) ⌝ }
+    requires { ⌜ pc .0 < 0x800000 ⌝ }
     ensures { λ r. ⌜ r ≡ nextRule description pc ⌝ }
 {
     let target = ProgramAddress(pc.0 + 2);
-    if places::is_implemented(places::place_at(description, target)) {
+    if part::is_implemented(part::place_at(description, target)) {
         Decision::MoveTo(target)
     } else {
         Decision::Trap
@@ -69,11 +67,10 @@ fn next(description: Description, pc: ProgramAddress) -> Decision
 }
 
 fn is_shut(description: Description, fas: u8, origin: Origin, target: ProgramAddress) -> bool
-    requires { ⌜ valid description ≡ true ⌝ }
     ensures { λ r. ⌜ r ≡ isShut description fas origin target ⌝ }
 {
-    let from_general = places::from_general(origin);
-    let into_auxiliary = places::is_auxiliary(places::place_at(description, target));
+    let from_general = part::from_general(origin);
+    let into_auxiliary = part::is_auxiliary(part::place_at(description, target));
     let high = fuse::is_high(fuse::level_of(description.keys, fas));
     let location = target.location();
     let in_access_area = ACCESS_AREA <= location.0;
@@ -87,10 +84,9 @@ fn flow_change(
     origin: Origin,
     target: ProgramAddress,
 ) -> Decision
-    requires { ⌜ valid description ≡ true ⌝ }
     ensures { λ r. ⌜ r ≡ flowChange description fas origin target ⌝ }
 {
-    if !places::is_implemented(places::place_at(description, target)) {
+    if !part::is_implemented(part::place_at(description, target)) {
         return Decision::Trap;
     }
     if is_shut(description, fas, origin, target) {
@@ -101,7 +97,6 @@ fn flow_change(
 
 // Rule 3.
 fn interrupt(description: Description, fas: u8, word: u32, origin: Origin) -> Decision
-    requires { ⌜ valid description ≡ true ⌝ }
     ensures { λ r. ⌜ r ≡ interruptRule description fas word origin ⌝ }
 {
     match origin {
@@ -125,8 +120,8 @@ fn read_in(description: Description, fgs: u8, fas: u8, origin: Origin, place: Pl
     match place {
         Place::Unimplemented => Decision::Refuse(Answer::Zeroed),
         Place::InArray(array, index) => {
-            let segment = places::segment_of(places::VECTOR_WORDS, array, index);
-            let target = places::target_of(description.keys, fgs, fas, segment);
+            let segment = part::segment_of(part::VECTOR_WORDS, array, index);
+            let target = part::target_of(description.keys, fgs, fas, segment);
             let test = permission::allowed(Operation::Read, origin, target);
             allowed(test, Decision::ReadAt(array, index), Answer::Zeroed)
         }
@@ -141,7 +136,6 @@ fn table_read(
     origin: Origin,
     address: ProgramAddress,
 ) -> Decision
-    requires { ⌜ valid description ≡ true ⌝ }
     ensures { λ r. ⌜ r ≡ tableRead description fgs fas origin address ⌝ }
 {
     read_in(
@@ -149,7 +143,7 @@ fn table_read(
         fgs,
         fas,
         origin,
-        places::place_at(description, address),
+        part::place_at(description, address),
     )
 }
 
@@ -174,8 +168,8 @@ fn may_change(
     ensures { λ r. ⌜ r ≡ mayChange description fgs fas origin array index ⌝ }
 {
     let vectors = description.page as usize;
-    let segment = places::segment_of(vectors, array, index);
-    let target = places::target_of(description.keys, fgs, fas, segment);
+    let segment = part::segment_of(vectors, array, index);
+    let target = part::target_of(description.keys, fgs, fas, segment);
     permission::allowed(Operation::Program, origin, target)
 }
 
@@ -199,7 +193,6 @@ fn program_row(
     origin: Origin,
     address: ProgramAddress,
 ) -> Decision
-    requires { ⌜ valid description ≡ true ⌝ }
     ensures { λ r. ⌜ r ≡ programRow description fgs fas origin address ⌝ }
 {
     program_in(
@@ -207,7 +200,7 @@ fn program_row(
         fgs,
         fas,
         origin,
-        places::place_at(description, address),
+        part::place_at(description, address),
     )
 }
 
@@ -231,7 +224,6 @@ fn erase_page(
     origin: Origin,
     address: ProgramAddress,
 ) -> Decision
-    requires { ⌜ valid description ≡ true ⌝ }
     ensures { λ r. ⌜ r ≡ erasePage description fgs fas origin address ⌝ }
 {
     erase_in(
@@ -239,7 +231,7 @@ fn erase_page(
         fgs,
         fas,
         origin,
-        places::place_at(description, address),
+        part::place_at(description, address),
     )
 }
 
@@ -247,7 +239,7 @@ fn erase_page(
 fn erase_general(origin: Origin) -> Decision
     ensures { λ r. ⌜ r ≡ eraseGeneral origin ⌝ }
 {
-    let test = !places::from_general(origin);
+    let test = !part::from_general(origin);
     allowed(
         test,
         Decision::EraseWhole(FlashArray::GeneralArray),
@@ -258,7 +250,7 @@ fn erase_general(origin: Origin) -> Decision
 fn erase_auxiliary(description: Description, origin: Origin) -> Decision
     ensures { λ r. ⌜ r ≡ eraseAuxiliary description origin ⌝ }
 {
-    let test = places::from_general(origin) & descriptions::has_auxiliary(description);
+    let test = part::from_general(origin) & part::has_auxiliary(description);
     allowed(
         test,
         Decision::EraseWhole(FlashArray::AuxiliaryArray),
@@ -304,7 +296,7 @@ fn program_fas(description: Description, fgs: u8, fas: u8, byte: u8) -> Decision
     ensures { λ r. ⌜ r ≡ programFas description fgs fas byte ⌝ }
 {
     let stored = fuse::stored_byte(description.keys, byte);
-    let test = descriptions::has_auxiliary(description)
+    let test = part::has_auxiliary(description)
         & is_open(description.keys, fgs)
         & is_open(description.keys, fas);
     allowed(
@@ -324,7 +316,7 @@ fn own_rule(
     origin: Origin,
     event: Event,
 ) -> Decision
-    requires { ⌜ (valid description ≡ true) × (pc .0 < 0x800000) ⌝ }
+    requires { ⌜ pc .0 < 0x800000 ⌝ }
     ensures { λ r. ⌜ r ≡ ownRule description pc fgs fas word origin event ⌝ }
 {
     match event {
@@ -381,7 +373,7 @@ pub fn decide(
     if stopped {
         return Decision::Refuse(Answer::Stopped);
     }
-    let running = places::running(description, pc);
+    let running = part::running_at(description, pc);
     match running {
         Running::NotExecutable => Decision::Trap,
         Running::Executing(origin) => own_rule(description, pc, fgs, fas, word, origin, event),

@@ -1,11 +1,11 @@
 // The one word of flash that a decision needs: an interrupt's vector.
-use crate::Event;
+use event::Event;
 use flash::WordFound;
 ghost use mathlib.Core.Path.{_≡_};
 ghost use Prim.Native.Nat.{_+_};
 ghost use lib.ListN.{take, getD};
 ghost use Rattle.measure.specs.Words.{wordOf};
-ghost use Rattle.device.specs.Places.{vectorWords};
+ghost use Rattle.part.specs.Places.{vectorWords};
 ghost use Rattle.device.specs.OneEvent.{vectorWord};
 ghost use Rattle.device.specs.CarryingOut.{wordOrZero};
 

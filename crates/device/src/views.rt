@@ -1,6 +1,6 @@
 // The lecturer's page view.
-use crate::FlashArray;
-use crate::Place;
+use part::FlashArray;
+use part::Place;
 ghost use mathlib.Core.Path.{_≡_};
 ghost use Rattle.device.specs.PageView.{pageIn};
 

@@ -1,12 +1,17 @@
 -- Document 01, "The device": a program address counts two for every instruction location.
 -- Assumes nothing.
-use Prim.Native.Nat.{ℕ, _*_, _/_, _^_}
-use lib.Dec.{ltb}
+use Prim.Native.Nat.{ℕ, _*_, _/_, _%_, _^_}
+use mathlib.Core.Bool.{Bool}
+use lib.Dec.{eqb, ltb}
 use Rattle.measure.specs.Choice.{if_then_else_}
 use Rattle.measure.specs.declared.ProgramAddress.{ProgramAddress}
 use Rattle.measure.specs.declared.InstructionLocation.{InstructionLocation}
 use Rattle.measure.specs.declared.AddressFound.{AddressFound}
 use Rattle.measure.specs.declared.AddressFound.the-variants.{At, NoAddress}
+
+-- an address at which a location starts is even
+abbrev pub even : ℕ → Bool
+even n = eqb (n % 2) 0
 
 -- the program address that is the number n
 abbrev pub address : ℕ → ProgramAddress

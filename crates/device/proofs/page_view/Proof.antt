@@ -37,7 +37,7 @@ cast-page-in : tie.Need-cast-page-in
 cast-page-in c = search needs
 
 place-at-requires : tie.Need-place-at-requires
-place-at-requires c κs = sym (c .before .before .before .before .before .before .is-valid .ensures) ∙ not-false _ (c .before .before .before .before .before .if1 .left)
+place-at-requires c κs = search needs
 
 page-in-requires : tie.Need-page-in-requires
 page-in-requires c κs = search needs

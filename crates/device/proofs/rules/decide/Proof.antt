@@ -17,8 +17,8 @@ returns-2 : tie.Need-returns-2
 unfolding decide
 returns-2 c = rw (← c .before .before .is-power-on .ensures, c .before .if1 .left, c .if2 .taken)
 
-running-requires : tie.Need-running-requires
-running-requires c κs = search needs
+running-at-requires : tie.Need-running-at-requires
+running-at-requires c κs = search needs
 
 enum-told : tie.Need-enum-told
 enum-told c = search needs
@@ -27,15 +27,15 @@ enum-known-running : tie.Need-enum-known-running
 enum-known-running c = search needs
 
 own-rule-requires : tie.Need-own-rule-requires
-own-rule-requires c κs = (c .before .before .before .before .before .before .before .pre, executing-lt _ (c .before .before .before .before .before .before .before .pre) _ (sym (c .before .before .before .running .ensures) ∙ c .before .running2 .given .1))
+own-rule-requires c κs = executing-lt _ (c .before .before .before .before .before .before .before .pre) _ (sym (c .before .before .before .running-at .ensures) ∙ c .before .running .given .1)
 
 returns-3 : tie.Need-returns-3
 unfolding decide ruleFrom
-returns-3 c = rw (← c .before .before .before .before .before .is-power-on .ensures, c .before .before .before .before .if1 .left, c .before .before .before .if2 .left, ← c .before .before .running .ensures, c .enum-told .given .1)
+returns-3 c = rw (← c .before .before .before .before .before .is-power-on .ensures, c .before .before .before .before .if1 .left, c .before .before .before .if2 .left, ← c .before .before .running-at .ensures, c .enum-told .given .1)
 
 returns-4 : tie.Need-returns-4
 unfolding decide ruleFrom
-returns-4 c = rw (← c .before .before .before .before .before .before .before .is-power-on .ensures, c .before .before .before .before .before .before .if1 .left, c .before .before .before .before .before .if2 .left, ← c .before .before .before .before .running .ensures, c .before .before .running2 .given .1) (c .own-rule .ensures)
+returns-4 c = rw (← c .before .before .before .before .before .before .before .is-power-on .ensures, c .before .before .before .before .before .before .if1 .left, c .before .before .before .before .before .if2 .left, ← c .before .before .before .before .running-at .ensures, c .before .before .running .given .1) (c .own-rule .ensures)
 
 pub decide-spec : {M : Type 1} → statement M
 decide-spec =
@@ -44,7 +44,7 @@ decide-spec =
     is-power-on-requires
     returns
     returns-2
-    running-requires
+    running-at-requires
     enum-told
     enum-known-running
     own-rule-requires

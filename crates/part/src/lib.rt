@@ -1,0 +1,252 @@
+// What a part is: its description, where an address lies, whose code runs there, and which target of table 23-1 it is.
+use measure::InstructionLocation;
+use measure::ProgramAddress;
+use permission::Origin;
+use permission::Segment;
+use permission::Target;
+ghost use mathlib.Core.Path.{_≡_};
+ghost use Prim.Native.Nat.{_*_};
+ghost use Rattle.part.specs.Descriptions.{goodVector};
+ghost use Rattle.part.specs.Places.{auxiliaryFirst, placeOf, runningIn, byteOf};
+ghost use Rattle.part.specs.Promises.{
+  BenchPromise,
+  HasAuxiliaryPromise,
+  IsValidPromise,
+  IsSizedPromise,
+  PlaceAtPromise,
+  IsImplementedPromise,
+  IsAuxiliaryPromise,
+  RunningAtPromise,
+  FromGeneralPromise,
+  SegmentOfPromise,
+  TargetOfPromise,
+};
+
+// What a part is.
+pub struct Description {
+    // The words of a page.
+    pub page: u32,
+    // The pages of the General Segment, vectors included.
+    pub general: u32,
+    // The pages of the Auxiliary Segment.
+    pub auxiliary: u32,
+    // Whether the fuse bytes have key bits.
+    pub keys: bool,
+    // Where an interrupt goes while the Auxiliary Segment's code runs.
+    pub vector: ProgramAddress,
+}
+
+// One of the two lent flash arrays.
+pub enum FlashArray {
+    GeneralArray,
+    AuxiliaryArray,
+}
+
+// Where an instruction location lies: its array, and its index there.
+pub enum Place {
+    Unimplemented,
+    InArray(FlashArray, usize),
+}
+
+// Whose code runs.
+pub enum Running {
+    NotExecutable,
+    Executing(Origin),
+}
+
+impl Description {
+    // The bench device's.
+    pub fn bench() -> Self
+        ensures { λ r. ⌜ BenchPromise r ⌝ }
+    {
+        Description {
+            page: 512,
+            general: 10,
+            auxiliary: 4,
+            keys: true,
+            vector: ProgramAddress(0x7FFFEA),
+        }
+    }
+}
+
+// Whether the part has an Auxiliary Segment.
+pub fn has_auxiliary(description: Description) -> bool
+    ensures { λ r. ⌜ HasAuxiliaryPromise description r ⌝ }
+{
+    description.auxiliary != 0
+}
+
+fn good_vector(description: Description) -> bool
+    ensures { λ r. ⌜ r ≡ goodVector description ⌝ }
+{
+    let vector = description.vector.0;
+    if has_auxiliary(description) {
+        (vector % 2 == 0) & (0x7FFFC0 <= vector) & (vector <= 0x7FFFFE)
+    } else {
+        vector == 0
+    }
+}
+
+// Whether a description is good.
+pub fn is_valid(description: Description) -> bool
+    ensures { λ r. ⌜ IsValidPromise description r ⌝ }
+{
+    let page = (description.page == 512) | (description.page == 1024);
+    let general = (1 <= description.general) & (description.general <= 64);
+    let auxiliary = description.auxiliary <= 16;
+    page & general & auxiliary & good_vector(description)
+}
+
+// The words of so many pages.
+fn words(pages: u32, page: u32) -> usize
+    ensures { λ r. ⌜ r ≡ pages * page ⌝ }
+{
+    (pages as usize) * (page as usize)
+}
+
+// Whether arrays of these lengths are the description's.
+pub fn is_sized(description: Description, general: usize, auxiliary: usize) -> bool
+    ensures { λ r. ⌜ IsSizedPromise description general auxiliary r ⌝ }
+{
+    (general == words(description.general, description.page))
+        & (auxiliary == words(description.auxiliary, description.page))
+}
+
+// The location after the last of the Auxiliary Segment.
+const AUXILIARY_END: usize = 0x400000;
+
+// The words of the vector space.
+pub const VECTOR_WORDS: usize = 256;
+
+fn auxiliary_first(description: Description) -> usize
+    ensures { λ r. ⌜ r ≡ auxiliaryFirst description ⌝ }
+{
+    let auxiliary = words(description.auxiliary, description.page);
+    if auxiliary <= AUXILIARY_END {
+        AUXILIARY_END - auxiliary
+    } else {
+        0
+    }
+}
+
+fn place_of(description: Description, location: InstructionLocation) -> Place
+    ensures { λ r. ⌜ r ≡ placeOf description location ⌝ }
+{
+    let index = location.0 as usize;
+    let general = words(description.general, description.page);
+    let first = auxiliary_first(description);
+    let in_general = index < general;
+    if in_general {
+        return Place::InArray(FlashArray::GeneralArray, index);
+    }
+    let in_auxiliary = (first <= index) & (index < AUXILIARY_END);
+    if in_auxiliary {
+        return Place::InArray(FlashArray::AuxiliaryArray, index - first);
+    }
+    Place::Unimplemented
+}
+
+pub fn place_at(description: Description, address: ProgramAddress) -> Place
+    ensures { λ r. ⌜ PlaceAtPromise description address r ⌝ }
+{
+    place_of(description, address.location())
+}
+
+pub fn is_implemented(place: Place) -> bool
+    ensures { λ r. ⌜ IsImplementedPromise place r ⌝ }
+{
+    match place {
+        Place::Unimplemented => false,
+        Place::InArray(_, _) => true,
+    }
+}
+
+pub fn is_auxiliary(place: Place) -> bool
+    ensures { λ r. ⌜ IsAuxiliaryPromise place r ⌝ }
+{
+    match place {
+        Place::Unimplemented => false,
+        Place::InArray(array, _) => match array {
+            FlashArray::GeneralArray => false,
+            FlashArray::AuxiliaryArray => true,
+        },
+    }
+}
+
+// Code of the General Segment runs from its own words and from the Reset instruction, and nowhere else in the vectors.
+fn running_in(pc: ProgramAddress, place: Place) -> Running
+    ensures { λ r. ⌜ r ≡ runningIn pc place ⌝ }
+{
+    match place {
+        Place::Unimplemented => Running::NotExecutable,
+        Place::InArray(array, index) => match array {
+            FlashArray::GeneralArray => {
+                let executable = (pc.0 == 0) | (VECTOR_WORDS <= index);
+                if executable {
+                    Running::Executing(Origin::FromGeneral)
+                } else {
+                    Running::NotExecutable
+                }
+            }
+            FlashArray::AuxiliaryArray => Running::Executing(Origin::FromAuxiliary),
+        },
+    }
+}
+
+pub fn running_at(description: Description, pc: ProgramAddress) -> Running
+    ensures { λ r. ⌜ RunningAtPromise description pc r ⌝ }
+{
+    if pc.0 % 2 == 0 {
+        running_in(pc, place_at(description, pc))
+    } else {
+        Running::NotExecutable
+    }
+}
+
+pub fn from_general(origin: Origin) -> bool
+    ensures { λ r. ⌜ FromGeneralPromise origin r ⌝ }
+{
+    match origin {
+        Origin::FromGeneral => true,
+        Origin::FromAuxiliary => false,
+    }
+}
+
+// The segment of a word, where the first words of the General Segment's array count as vectors.
+pub fn segment_of(vectors: usize, array: FlashArray, index: usize) -> Segment
+    ensures { λ r. ⌜ SegmentOfPromise vectors array index r ⌝ }
+{
+    match array {
+        FlashArray::GeneralArray => {
+            if index < vectors {
+                Segment::Vectors
+            } else {
+                Segment::General
+            }
+        }
+        FlashArray::AuxiliaryArray => Segment::Auxiliary,
+    }
+}
+
+fn byte_of(fgs: u8, fas: u8, segment: Segment) -> u8
+    ensures { λ r. ⌜ r ≡ byteOf fgs fas segment ⌝ }
+{
+    match segment {
+        Segment::General => fgs,
+        Segment::Auxiliary => fas,
+        Segment::Vectors => fgs,
+    }
+}
+
+pub fn target_of(keys: bool, fgs: u8, fas: u8, segment: Segment) -> Target
+    ensures { λ r. ⌜ TargetOfPromise keys fgs fas segment r ⌝ }
+{
+    let byte = byte_of(fgs, fas, segment);
+    let level = fuse::level_of(keys, byte);
+    let protection = fuse::write_protection_of(byte);
+    Target {
+        segment,
+        level,
+        protection,
+    }
+}
