@@ -1,4 +1,4 @@
--- `page_view` meets its contract. Assumes nothing.
+-- `device::page_view` meets its contract. Assumes nothing.
 use mathlib.Core.Path.{sym, _∙_}
 use borrow.Author.Tests.{eq-eqb, ne-eqb, not-false, not-true}
 use Rattle.device.specs.PageView.{pageView}

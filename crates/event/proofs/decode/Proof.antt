@@ -1,4 +1,4 @@
--- `events::decode` meets its contract: each kind tests its own numbers. Assumes nothing.
+-- `event::decode` meets its contract: each kind tests its own numbers. Assumes nothing.
 use mathlib.Core.Path.{_∙_}
 use borrow.Author.Tests.{ne-eqb}
 use Rattle.event.specs.Events.{decode}

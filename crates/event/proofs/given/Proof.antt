@@ -1,4 +1,4 @@
--- `events::given` meets its contract. Assumes nothing.
+-- `event::given` meets its contract. Assumes nothing.
 use borrow.Author.Needs.{needs}
 use Rattle.event.proofs.given.Statement.{statement}
 use Rattle.event.proofs.given.Tie as tie

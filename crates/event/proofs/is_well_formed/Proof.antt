@@ -1,4 +1,4 @@
--- `events::is_well_formed` meets its contract. Assumes nothing.
+-- `event::is_well_formed` meets its contract. Assumes nothing.
 use Rattle.event.specs.Events.{wellFormed}
 use borrow.Author.Needs.{needs}
 use Rattle.event.proofs.is_well_formed.Statement.{statement}

@@ -1,4 +1,4 @@
--- `descriptions::good_vector` meets its contract. Assumes nothing.
+-- `part::good_vector` meets its contract. Assumes nothing.
 use borrow.Author.Needs.{needs}
 use Rattle.part.proofs.good_vector.Statement.{statement}
 use Rattle.part.proofs.good_vector.Tie as tie

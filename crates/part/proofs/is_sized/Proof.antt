@@ -1,4 +1,4 @@
--- `descriptions::is_sized` meets its contract. Assumes nothing.
+-- `part::is_sized` meets its contract. Assumes nothing.
 use borrow.Author.Needs.{needs}
 use Rattle.part.proofs.is_sized.Statement.{statement}
 use Rattle.part.proofs.is_sized.Tie as tie

@@ -1,4 +1,4 @@
--- `descriptions::is_valid` meets its contract. Assumes nothing.
+-- `part::is_valid` meets its contract. Assumes nothing.
 use Rattle.part.specs.Descriptions.{valid}
 use borrow.Author.Needs.{needs}
 use Rattle.part.proofs.is_valid.Statement.{statement}

@@ -1,4 +1,4 @@
--- `place_at` meets its contract. Assumes nothing.
+-- `part::place_at` meets its contract. Assumes nothing.
 use borrow.Author.Needs.{needs}
 use Rattle.part.proofs.place_at.Statement.{statement}
 use Rattle.part.proofs.place_at.Tie as tie

@@ -1,4 +1,4 @@
--- `place_of` meets its contract. Assumes nothing.
+-- `part::place_of` meets its contract. Assumes nothing.
 use borrow.Author.Tests.{leb-true}
 use Rattle.part.specs.Places.{placeOf}
 use Rattle.part.proofs.Laws.{and-left}

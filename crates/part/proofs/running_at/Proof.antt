@@ -1,4 +1,4 @@
--- `running_at` meets its contract. Assumes nothing.
+-- `part::running_at` meets its contract. Assumes nothing.
 use borrow.Author.Tests.{eq-eqb, ne-eqb}
 use Rattle.part.specs.Places.{running}
 use borrow.Author.Needs.{needs}

@@ -1,4 +1,4 @@
--- `places::running_in` meets its contract. Assumes nothing.
+-- `part::running_in` meets its contract. Assumes nothing.
 use borrow.Author.Needs.{needs}
 use Rattle.part.proofs.running_in.Statement.{statement}
 use Rattle.part.proofs.running_in.Tie as tie

@@ -1,4 +1,4 @@
--- `places::segment_of` meets its contract. Assumes nothing.
+-- `part::segment_of` meets its contract. Assumes nothing.
 use borrow.Author.Tests.{lt-ltb, le-ltb}
 use borrow.Author.Needs.{needs}
 use Rattle.part.proofs.segment_of.Statement.{statement}

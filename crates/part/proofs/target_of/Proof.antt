@@ -1,4 +1,4 @@
--- `places::target_of` meets its contract. Assumes nothing.
+-- `part::target_of` meets its contract. Assumes nothing.
 use Rattle.part.specs.Places.{targetOf}
 use borrow.Author.Needs.{needs}
 use Rattle.part.proofs.target_of.Statement.{statement}

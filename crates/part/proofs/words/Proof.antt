@@ -1,4 +1,4 @@
--- `descriptions::words` meets its contract. Assumes nothing.
+-- `part::words` meets its contract. Assumes nothing.
 use Prim.Native.Nat.{_^_}
 use Rattle.part.proofs.Laws.{product-lt}
 use borrow.Author.Needs.{needs}

@@ -1,4 +1,4 @@
--- `State::event` meets its contract: decided, then carried out. Assumes nothing.
+-- `device::State::event` meets its contract: decided, then carried out. Assumes nothing.
 use Rattle.device.specs.OneEvent.{eventOn}
 use borrow.Author.Needs.{needs}
 use Rattle.device.proofs.State.event.Statement.{statement}

@@ -1,4 +1,4 @@
--- `State::run` meets its contract: the refusals in document 01's order, then event by event. Assumes nothing.
+-- `device::State::run` meets its contract: the refusals in document 01's order, then event by event. Assumes nothing.
 use mathlib.Core.Path.{sym, _∙_}
 use borrow.Author.Tests.{not-false}
 use Rattle.device.specs.Lists.{run}

@@ -1,4 +1,4 @@
--- `State::step` meets its contract: the checks in document 01's order. Assumes nothing.
+-- `device::State::step` meets its contract: the checks in document 01's order. Assumes nothing.
 use mathlib.Core.Path.{sym, _∙_}
 use borrow.Author.Tests.{not-false}
 use Rattle.device.specs.OneEvent.{step}

@@ -1,4 +1,4 @@
--- `carrying::carry_out` meets its contract: each decision in its own way. Assumes nothing.
+-- `device::carrying::carry_out` meets its contract: each decision in its own way. Assumes nothing.
 use Rattle.device.specs.CarryingOut.{carryOut}
 use borrow.Author.Needs.{needs}
 use Rattle.device.proofs.carrying.carry_out.Statement.{statement}

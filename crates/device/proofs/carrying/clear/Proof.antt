@@ -1,4 +1,4 @@
--- `carrying::clear` meets its contract. Assumes nothing.
+-- `device::carrying::clear` meets its contract. Assumes nothing.
 use mathlib.Core.Path.{ap, _∙_}
 use Rattle.flash.specs.Operations.{Outcome}
 use Rattle.flash.proofs.Laws.{whole-erased}

@@ -1,4 +1,4 @@
--- `carrying::erase` meets its contract. Assumes nothing.
+-- `device::carrying::erase` meets its contract. Assumes nothing.
 use mathlib.Core.Path.{ap}
 use Rattle.flash.specs.Operations.{Outcome}
 use Rattle.flash.specs.declared.RangeErased.{RangeErased}

@@ -1,4 +1,4 @@
--- `carrying::program` meets its contract. Assumes nothing.
+-- `device::carrying::program` meets its contract. Assumes nothing.
 use Rattle.device.specs.CarryingOut.{programs}
 use borrow.Author.Needs.{needs}
 use Rattle.device.proofs.carrying.program.Statement.{statement}

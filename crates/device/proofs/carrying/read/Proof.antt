@@ -1,4 +1,4 @@
--- `carrying::read` meets its contract. Assumes nothing.
+-- `device::carrying::read` meets its contract. Assumes nothing.
 use borrow.Author.Needs.{needs}
 use Rattle.device.proofs.carrying.read.Statement.{statement}
 use Rattle.device.proofs.carrying.read.Tie as tie

@@ -1,4 +1,4 @@
--- `carrying::read_answer` meets its contract. Assumes nothing.
+-- `device::carrying::read_answer` meets its contract. Assumes nothing.
 use borrow.Author.Needs.{needs}
 use Rattle.device.proofs.carrying.read_answer.Statement.{statement}
 use Rattle.device.proofs.carrying.read_answer.Tie as tie

@@ -1,4 +1,4 @@
--- `carrying::row_answer` meets its contract. Assumes nothing.
+-- `device::carrying::row_answer` meets its contract. Assumes nothing.
 use borrow.Author.Needs.{needs}
 use Rattle.device.proofs.carrying.row_answer.Statement.{statement}
 use Rattle.device.proofs.carrying.row_answer.Tie as tie

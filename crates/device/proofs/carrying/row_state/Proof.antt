@@ -1,4 +1,4 @@
--- `carrying::row_state` meets its contract. Assumes nothing.
+-- `device::carrying::row_state` meets its contract. Assumes nothing.
 use borrow.Author.Needs.{needs}
 use Rattle.device.proofs.carrying.row_state.Statement.{statement}
 use Rattle.device.proofs.carrying.row_state.Tie as tie

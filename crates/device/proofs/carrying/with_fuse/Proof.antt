@@ -1,4 +1,4 @@
--- `carrying::with_fuse` meets its contract. Assumes nothing.
+-- `device::carrying::with_fuse` meets its contract. Assumes nothing.
 use borrow.Author.Needs.{needs}
 use Rattle.device.proofs.carrying.with_fuse.Statement.{statement}
 use Rattle.device.proofs.carrying.with_fuse.Tie as tie

@@ -1,4 +1,4 @@
--- `carrying::with_latch` meets its contract: a latch that is not there is not set. Assumes nothing.
+-- `device::carrying::with_latch` meets its contract: a latch that is not there is not set. Assumes nothing.
 use mathlib.Core.Path.{_≡_}
 use Prim.Native.Nat.{_≤_}
 use native.Mathlib.Omega.{arith}

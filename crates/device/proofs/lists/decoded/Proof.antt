@@ -1,4 +1,4 @@
--- `lists::decoded` meets its contract. Assumes nothing.
+-- `device::lists::decoded` meets its contract. Assumes nothing.
 use Rattle.device.specs.Lists.{decodedOn}
 use borrow.Author.Needs.{needs}
 use Rattle.device.proofs.lists.decoded.Statement.{statement}

@@ -1,4 +1,4 @@
--- `lists::listed` meets its contract. Assumes nothing.
+-- `device::lists::listed` meets its contract. Assumes nothing.
 use borrow.Author.Needs.{needs}
 use Rattle.device.proofs.lists.listed.Statement.{statement}
 use Rattle.device.proofs.lists.listed.Tie as tie

@@ -1,4 +1,4 @@
--- `lists::run_events` meets its contract. The invariant: what is done joined with the trace of the rest is the whole trace. Assumes nothing.
+-- `device::lists::run_events` meets its contract. The invariant: what is done joined with the trace of the rest is the whole trace. Assumes nothing.
 use Prim.Native.Nat.{ℕ, _+_, _-_, _*_, _<_, _≤_}
 use mathlib.Core.Path.{_≡_, refl, sym, ap, _∙_}
 use native.Mathlib.Nat.{sub-zero}

@@ -1,4 +1,4 @@
--- `lists::store` meets its contract. Assumes nothing.
+-- `device::lists::store` meets its contract. Assumes nothing.
 
 use borrow.Author.Needs.{needs}
 use Rattle.device.proofs.lists.store.Statement.{statement}

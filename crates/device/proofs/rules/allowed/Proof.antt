@@ -1,4 +1,4 @@
--- `rules::allowed` meets its contract. Assumes nothing.
+-- `device::rules::allowed` meets its contract. Assumes nothing.
 use borrow.Author.Needs.{needs}
 use Rattle.device.proofs.rules.allowed.Statement.{statement}
 use Rattle.device.proofs.rules.allowed.Tie as tie

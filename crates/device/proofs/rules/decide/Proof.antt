@@ -1,4 +1,4 @@
--- `rules::decide` meets its contract: the checks in document 01's order. Assumes nothing.
+-- `device::rules::decide` meets its contract: the checks in document 01's order. Assumes nothing.
 use mathlib.Core.Path.{sym, _∙_}
 use Rattle.device.specs.Rules.{ruleFrom, decide}
 use Rattle.device.proofs.Laws.{executing-lt}

@@ -1,4 +1,4 @@
--- `rules::erase_auxiliary` meets its contract. Assumes nothing.
+-- `device::rules::erase_auxiliary` meets its contract. Assumes nothing.
 use borrow.Author.Needs.{needs}
 use Rattle.device.proofs.rules.erase_auxiliary.Statement.{statement}
 use Rattle.device.proofs.rules.erase_auxiliary.Tie as tie

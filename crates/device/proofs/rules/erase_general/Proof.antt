@@ -1,4 +1,4 @@
--- `rules::erase_general` meets its contract. Assumes nothing.
+-- `device::rules::erase_general` meets its contract. Assumes nothing.
 use borrow.Author.Needs.{needs}
 use Rattle.device.proofs.rules.erase_general.Statement.{statement}
 use Rattle.device.proofs.rules.erase_general.Tie as tie

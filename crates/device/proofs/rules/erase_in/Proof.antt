@@ -1,4 +1,4 @@
--- `rules::erase_in` meets its contract. Assumes nothing.
+-- `device::rules::erase_in` meets its contract. Assumes nothing.
 use Rattle.device.specs.Rules.{eraseIn}
 use borrow.Author.Needs.{needs}
 use Rattle.device.proofs.rules.erase_in.Statement.{statement}

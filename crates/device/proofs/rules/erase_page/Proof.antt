@@ -1,4 +1,4 @@
--- `rules::erase_page` meets its contract. Assumes nothing.
+-- `device::rules::erase_page` meets its contract. Assumes nothing.
 use borrow.Author.Needs.{needs}
 use Rattle.device.proofs.rules.erase_page.Statement.{statement}
 use Rattle.device.proofs.rules.erase_page.Tie as tie

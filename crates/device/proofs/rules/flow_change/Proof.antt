@@ -1,4 +1,4 @@
--- `rules::flow_change` meets its contract. Assumes nothing.
+-- `device::rules::flow_change` meets its contract. Assumes nothing.
 use Rattle.device.specs.Rules.{flowChange}
 use borrow.Author.Needs.{needs}
 use Rattle.device.proofs.rules.flow_change.Statement.{statement}

@@ -1,4 +1,4 @@
--- `rules::interrupt` meets its contract. Assumes nothing.
+-- `device::rules::interrupt` meets its contract. Assumes nothing.
 use borrow.Author.Tests.{eq-eqb, ne-eqb}
 use Rattle.device.specs.Rules.{interrupt}
 use borrow.Author.Needs.{needs}

@@ -1,4 +1,4 @@
--- `rules::is_open` meets its contract. Assumes nothing.
+-- `device::rules::is_open` meets its contract. Assumes nothing.
 use borrow.Author.Needs.{needs}
 use Rattle.device.proofs.rules.is_open.Statement.{statement}
 use Rattle.device.proofs.rules.is_open.Tie as tie

@@ -1,4 +1,4 @@
--- `rules::is_shut` meets its contract. Assumes nothing.
+-- `device::rules::is_shut` meets its contract. Assumes nothing.
 use Rattle.device.specs.Rules.{isShut}
 use borrow.Author.Needs.{needs}
 use Rattle.device.proofs.rules.is_shut.Statement.{statement}

@@ -1,4 +1,4 @@
--- `rules::may_change` meets its contract. Assumes nothing.
+-- `device::rules::may_change` meets its contract. Assumes nothing.
 use borrow.Author.Needs.{needs}
 use Rattle.device.proofs.rules.may_change.Statement.{statement}
 use Rattle.device.proofs.rules.may_change.Tie as tie

@@ -1,4 +1,4 @@
--- `rules::next` meets its contract. Assumes nothing.
+-- `device::rules::next` meets its contract. Assumes nothing.
 use Rattle.device.specs.Rules.{next}
 use borrow.Author.Needs.{needs}
 use Rattle.device.proofs.rules.next.Statement.{statement}

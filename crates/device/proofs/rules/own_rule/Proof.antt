@@ -1,4 +1,4 @@
--- `rules::own_rule` meets its contract: each arm calls its own rule. Assumes nothing.
+-- `device::rules::own_rule` meets its contract: each arm calls its own rule. Assumes nothing.
 use Rattle.device.specs.Rules.{ownRule}
 use borrow.Author.Needs.{needs}
 use Rattle.device.proofs.rules.own_rule.Statement.{statement}

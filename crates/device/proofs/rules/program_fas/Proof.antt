@@ -1,4 +1,4 @@
--- `rules::program_fas` meets its contract. Assumes nothing.
+-- `device::rules::program_fas` meets its contract. Assumes nothing.
 use Rattle.device.specs.Rules.{programFas}
 use borrow.Author.Needs.{needs}
 use Rattle.device.proofs.rules.program_fas.Statement.{statement}

@@ -1,4 +1,4 @@
--- `rules::program_fgs` meets its contract. Assumes nothing.
+-- `device::rules::program_fgs` meets its contract. Assumes nothing.
 use Rattle.device.specs.Rules.{programFgs}
 use borrow.Author.Needs.{needs}
 use Rattle.device.proofs.rules.program_fgs.Statement.{statement}

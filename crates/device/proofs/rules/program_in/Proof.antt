@@ -1,4 +1,4 @@
--- `rules::program_in` meets its contract. Assumes nothing.
+-- `device::rules::program_in` meets its contract. Assumes nothing.
 use Rattle.device.specs.Rules.{programIn}
 use borrow.Author.Needs.{needs}
 use Rattle.device.proofs.rules.program_in.Statement.{statement}

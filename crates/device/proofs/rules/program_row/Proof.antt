@@ -1,4 +1,4 @@
--- `rules::program_row` meets its contract. Assumes nothing.
+-- `device::rules::program_row` meets its contract. Assumes nothing.
 use borrow.Author.Needs.{needs}
 use Rattle.device.proofs.rules.program_row.Statement.{statement}
 use Rattle.device.proofs.rules.program_row.Tie as tie

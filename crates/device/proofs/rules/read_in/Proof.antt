@@ -1,4 +1,4 @@
--- `rules::read_in` meets its contract. Assumes nothing.
+-- `device::rules::read_in` meets its contract. Assumes nothing.
 use Rattle.device.specs.Rules.{readIn}
 use borrow.Author.Needs.{needs}
 use Rattle.device.proofs.rules.read_in.Statement.{statement}

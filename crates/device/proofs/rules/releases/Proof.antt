@@ -1,4 +1,4 @@
--- `rules::releases` meets its contract. Assumes nothing.
+-- `device::rules::releases` meets its contract. Assumes nothing.
 use borrow.Author.Needs.{needs}
 use Rattle.device.proofs.rules.releases.Statement.{statement}
 use Rattle.device.proofs.rules.releases.Tie as tie

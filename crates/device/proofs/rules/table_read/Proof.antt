@@ -1,4 +1,4 @@
--- `rules::table_read` meets its contract. Assumes nothing.
+-- `device::rules::table_read` meets its contract. Assumes nothing.
 use borrow.Author.Needs.{needs}
 use Rattle.device.proofs.rules.table_read.Statement.{statement}
 use Rattle.device.proofs.rules.table_read.Tie as tie

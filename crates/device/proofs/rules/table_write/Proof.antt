@@ -1,4 +1,4 @@
--- `rules::table_write` meets its contract. Assumes nothing.
+-- `device::rules::table_write` meets its contract. Assumes nothing.
 use borrow.Author.Needs.{needs}
 use Rattle.device.proofs.rules.table_write.Statement.{statement}
 use Rattle.device.proofs.rules.table_write.Tie as tie

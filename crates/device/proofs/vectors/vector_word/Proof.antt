@@ -1,4 +1,4 @@
--- `vectors::vector_word` meets its contract: only an interrupt reads a word. Assumes nothing.
+-- `device::vectors::vector_word` meets its contract: only an interrupt reads a word. Assumes nothing.
 use Rattle.device.specs.OneEvent.{vectorWord}
 use borrow.Author.Needs.{needs}
 use Rattle.device.proofs.vectors.vector_word.Statement.{statement}

@@ -1,4 +1,4 @@
--- `vectors::word_of` meets its contract. Assumes nothing.
+-- `device::vectors::word_of` meets its contract. Assumes nothing.
 use mathlib.Core.Path.{_∙_}
 use Rattle.device.proofs.Laws.{vector-read, no-vector}
 use borrow.Author.Needs.{needs}

@@ -1,4 +1,4 @@
--- `views::page_in` meets its contract. Assumes nothing.
+-- `device::views::page_in` meets its contract. Assumes nothing.
 use Rattle.device.specs.PageView.{pageIn}
 use borrow.Author.Needs.{needs}
 use Rattle.device.proofs.views.page_in.Statement.{statement}
