@@ -10,6 +10,7 @@ use lib.Dec.{eqb, ltb, leb, lit<}
 use lib.ListN.{length, take, getD, length-take, List·getD-eq-default}
 use lib.Seq.{getD-take}
 use Rattle.measure.specs.Choice.{if_then_else_}
+use Rattle.measure.specs.Tests.{byTest, and-left, and-right}
 use Rattle.measure.specs.Measures.{locationOf}
 use Rattle.measure.specs.declared.ProgramAddress.{ProgramAddress}
 use Rattle.measure.specs.declared.InstructionLocation.{InstructionLocation}
@@ -28,14 +29,6 @@ use Rattle.part.specs.declared.Place.{Place}
 use Rattle.part.specs.declared.Place.the-variants.{Unimplemented, InArray}
 use Rattle.part.specs.declared.Running.{Running}
 use Rattle.part.specs.declared.Running.the-variants.{NotExecutable, Executing}
-
-pub and-left : (a b : Bool) → (a && b) ≡ true → a ≡ true
-and-left true b e = refl
-and-left false b e = absurd (false≢true e)
-
-pub and-right : (a b : Bool) → (a && b) ≡ true → b ≡ true
-and-right true b e = e
-and-right false b e = absurd (false≢true e)
 
 module _ (d : Description) (v : valid d ≡ true) where
   -- the four parts of a good description
@@ -74,13 +67,6 @@ module _ (d : Description) (v : valid d ≡ true) where
 
   pub auxiliary-words-le : auxiliaryWords d ≤ 16384
   auxiliary-words-le = mul-le-mul auxiliary-le page-le
-
--- ---- by cases on a test
-
-pub byTest : {A : Type 0} (P : A → Type 0) (test : Bool) {yes no : A} → (test ≡ true → P yes) → (test ≡ false → P no)
-    → P (if test then yes else no)
-byTest P true p q = p refl
-byTest P false p q = q refl
 
 -- ---- code that runs lies in the arrays
 

@@ -1,3 +1,4 @@
 pub mod Laws
 pub mod Runs
 mod Unique
+mod SecrecyOfContracts

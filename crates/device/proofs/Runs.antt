@@ -11,6 +11,7 @@ use lib.Dec.{eqb, leb}
 use lib.ListN.{length, getD, set, drop, drop-of-length-le}
 use lib.Seq.{drop-cons, sets, sets-eq}
 use Rattle.measure.specs.Choice.{if_then_else_}
+use Rattle.measure.specs.Tests.{and-left, and-right}
 use Rattle.device.specs.Answers.{numberOf, valueOf}
 use Rattle.event.specs.Events.{decode}
 use Rattle.device.specs.CarryingOut.{Left, leaves}
@@ -20,7 +21,6 @@ use Rattle.part.specs.declared.Description.{Description}
 use Rattle.device.specs.declared.State.{State}
 use Rattle.device.specs.declared.Answer.{Answer}
 use Rattle.device.specs.declared.Answer.the-variants.{Done}
-use Rattle.device.proofs.Laws.{and-left, and-right}
 
 -- ---- what a good list is
 

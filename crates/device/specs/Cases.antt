@@ -28,7 +28,7 @@ use Rattle.event.specs.declared.Event.the-variants.{FlowChange, TableRead, Prog
 
 -- the bench device before an event: a new one but for its PC, its fuse bytes, the word at one address of the GS array, and
 -- the latch of that address
-pub record Device : Type 0 where
+pub record Setting : Type 0 where
   pub pc : ℕ
   pub fgs : ℕ
   pub fas : ℕ
@@ -49,14 +49,14 @@ pub data Case : Type 0 where
   -- an old word and a latch: the word programmed, the bits not set
   WordCase : ℕ → ℕ → ℕ → ℕ → Case
   -- an event on a device: what is seen of it
-  EventCase : Device → Event → Seen → Case
+  EventCase : Setting → Event → Seen → Case
 
 -- ---- what the definitions say of a case
 
-abbrev pub indexOf : Device → ℕ
+abbrev pub indexOf : Setting → ℕ
 indexOf device = locationOf (address (device .at)) .0
 
-abbrev pub stateOf : Device → State
+abbrev pub stateOf : Setting → State
 stateOf device =
     record {
       pc = address (device .pc);
@@ -67,13 +67,13 @@ stateOf device =
       latches = set blankLatches (indexOf device % 64) (device .latch);
     }
 
-abbrev pub generalOf : Device → List ℕ
+abbrev pub generalOf : Setting → List ℕ
 generalOf device = set (replicate (generalWords bench) blank) (indexOf device) (device .word)
 
 abbrev pub auxiliary : List ℕ
 auxiliary = replicate (auxiliaryWords bench) blank
 
-abbrev pub seenOf : Device → Left → Seen
+abbrev pub seenOf : Setting → Left → Seen
 seenOf device left =
     record {
       number = left .number;
@@ -93,14 +93,14 @@ computed (EventCase device event says) =
 -- ---- the table
 
 -- GS or AS high, by PC and address; a word that is not blank stands there, so that a change shows
-abbrev pub generalHigh : ℕ → ℕ → Device
+abbrev pub generalHigh : ℕ → ℕ → Setting
 generalHigh pc at = record { pc = pc; fgs = 0x31; fas = 0x03; at = at; word = 0x123456; latch = blank }
 
-abbrev pub auxiliaryHigh : ℕ → ℕ → Device
+abbrev pub auxiliaryHigh : ℕ → ℕ → Setting
 auxiliaryHigh pc at = record { pc = pc; fgs = 0x03; fas = 0x31; at = at; word = 0x123456; latch = blank }
 
 -- nothing high, by PC, address, word there and latch
-abbrev pub latched : ℕ → ℕ → ℕ → ℕ → Device
+abbrev pub latched : ℕ → ℕ → ℕ → ℕ → Setting
 latched pc at word latch = record { pc = pc; fgs = 0x03; fas = 0x03; at = at; word = word; latch = latch }
 
 -- by number, value, PC, word

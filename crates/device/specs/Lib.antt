@@ -8,3 +8,10 @@ pub mod PageView
 pub mod Promises
 pub mod StepByStep
 pub mod Cases
+pub mod Alike
+pub mod Harmless
+pub mod Decided
+pub mod Carried
+pub mod Secrecy
+pub mod SecrecyOfRuns
+pub mod SecrecyNotEmpty

@@ -1,12 +1,13 @@
 -- A run does with each well-formed event just what one event by itself does: what decodes is well-formed. Assumes nothing.
 use Prim.Native.Nat.{ℕ}
-use mathlib.Core.Path.{_≡_, refl, sym, _∙_}
-use mathlib.Core.Bool.{Bool, true, false, not, _&&_, false≢true}
+use mathlib.Core.Path.{_≡_, refl}
+use mathlib.Core.Bool.{Bool, true, false, not, _&&_}
 use mathlib.Core.List.{List}
 use lib.Dec.{eqb, ltb, leb}
 use lib.ListN.{length}
 use Rattle.measure.specs.Choice.{if_then_else_}
 use Rattle.measure.specs.Measures.{address}
+use Rattle.measure.specs.Tests.{byTest, and-left}
 use Rattle.part.specs.Descriptions.{valid, sized}
 use Rattle.event.specs.Events.{goodAddress, goodWord, goodByte, goodVector, wellFormed, given, decode}
 use Rattle.device.specs.OneEvent.{eventOn, step}
@@ -36,33 +37,25 @@ abbrev pub Sound : Decoded → Type 0
 Sound (WellFormed event) = wellFormed event ≡ true
 Sound Malformed = Unit {0}
 
-by-test : (P : Decoded → Type 0) (test : Bool) {yes no : Decoded} → P yes → P no → P (if test then yes else no)
-by-test P true p q = p
-by-test P false p q = q
-
 given-sound : (good : Bool) (event : Event) → (good ≡ true → wellFormed event ≡ true) → Sound (given good event)
 given-sound true event h = h refl
 given-sound false event h = tt
 
-and-first : (a b : Bool) → (a && b) ≡ true → a ≡ true
-and-first true b e = refl
-and-first false b e = absurd (false≢true e)
-
 pub decode-sound : (kind a b : ℕ) → Sound (decode kind a b)
 unfolding decode wellFormed
 decode-sound kind a b =
-    by-test Sound (eqb kind 1) (given-sound (eqb a 0 && eqb b 0) Next (λ _. refl))
-    (by-test Sound (eqb kind 2) (given-sound _ (FlowChange (address a)) (and-first (goodAddress a) (eqb b 0)))
-    (by-test Sound (eqb kind 3) (given-sound _ (Interrupt a) (and-first (goodVector a) (eqb b 0)))
-    (by-test Sound (eqb kind 4) (given-sound _ (TableRead (address a)) (and-first (goodAddress a) (eqb b 0)))
-    (by-test Sound (eqb kind 5) (given-sound _ (TableWrite (address a) b) (λ e. e))
-    (by-test Sound (eqb kind 6) (given-sound _ (ProgramRow (address a)) (and-first (goodAddress a) (eqb b 0)))
-    (by-test Sound (eqb kind 7) (given-sound _ (ErasePage (address a)) (and-first (goodAddress a) (eqb b 0)))
-    (by-test Sound (eqb kind 8) (given-sound (eqb a 0 && eqb b 0) EraseGeneral (λ _. refl))
-    (by-test Sound (eqb kind 9) (given-sound (eqb a 0 && eqb b 0) EraseAuxiliary (λ _. refl))
-    (by-test Sound (eqb kind 10) (given-sound (goodByte a && eqb b 0) (ProgramFgs a) (λ _. refl))
-    (by-test Sound (eqb kind 11) (given-sound (goodByte a && eqb b 0) (ProgramFas a) (λ _. refl))
-    (by-test Sound (eqb kind 12) (given-sound (eqb a 0 && eqb b 0) PowerOn (λ _. refl)) tt)))))))))))
+    byTest Sound (eqb kind 1) (λ _. given-sound (eqb a 0 && eqb b 0) Next (λ _. refl))
+    (λ _. byTest Sound (eqb kind 2) (λ _. given-sound _ (FlowChange (address a)) (and-left (goodAddress a) (eqb b 0)))
+    (λ _. byTest Sound (eqb kind 3) (λ _. given-sound _ (Interrupt a) (and-left (goodVector a) (eqb b 0)))
+    (λ _. byTest Sound (eqb kind 4) (λ _. given-sound _ (TableRead (address a)) (and-left (goodAddress a) (eqb b 0)))
+    (λ _. byTest Sound (eqb kind 5) (λ _. given-sound _ (TableWrite (address a) b) (λ e. e))
+    (λ _. byTest Sound (eqb kind 6) (λ _. given-sound _ (ProgramRow (address a)) (and-left (goodAddress a) (eqb b 0)))
+    (λ _. byTest Sound (eqb kind 7) (λ _. given-sound _ (ErasePage (address a)) (and-left (goodAddress a) (eqb b 0)))
+    (λ _. byTest Sound (eqb kind 8) (λ _. given-sound (eqb a 0 && eqb b 0) EraseGeneral (λ _. refl))
+    (λ _. byTest Sound (eqb kind 9) (λ _. given-sound (eqb a 0 && eqb b 0) EraseAuxiliary (λ _. refl))
+    (λ _. byTest Sound (eqb kind 10) (λ _. given-sound (goodByte a && eqb b 0) (ProgramFgs a) (λ _. refl))
+    (λ _. byTest Sound (eqb kind 11) (λ _. given-sound (goodByte a && eqb b 0) (ProgramFas a) (λ _. refl))
+    (λ _. byTest Sound (eqb kind 12) (λ _. given-sound (eqb a 0 && eqb b 0) PowerOn (λ _. refl)) (λ _. tt))))))))))))
 
 -- on a good device, an event that three numbers say is one step
 pub run-by-steps : (d : Description) (s : State) (g x : List ℕ) (kind a b : ℕ) (event : Event)

@@ -1,4 +1,5 @@
 pub mod Choice
+pub mod Tests
 pub mod Measures
 pub mod Words
 pub mod Promises

@@ -1,7 +1,7 @@
 -- `part::place_of` meets its contract. Assumes nothing.
 use borrow.Author.Tests.{leb-true}
 use Rattle.part.specs.Places.{placeOf}
-use Rattle.part.proofs.Laws.{and-left}
+use Rattle.measure.specs.Tests.{and-left}
 use borrow.Author.Needs.{needs}
 use Rattle.part.proofs.place_of.Statement.{statement}
 use Rattle.part.proofs.place_of.Tie as tie

@@ -1,0 +1,95 @@
+-- Demand 3 is not empty: pairs of bench devices, alike but for one word of S, and what they answer. Assumes nothing.
+use Prim.Native.Nat.{ℕ}
+use mathlib.Core.Path.{_≡_, refl, sym, _∙_}
+use mathlib.Core.Bool.{Bool, true, false}
+use mathlib.Core.List.{List, [], _∷_, map}
+use native.Mathlib.Omega.{arith}
+use lib.ListN.{take, set, replicate, length-set}
+use lib.Seq.{take-set-le}
+use Rattle.measure.specs.Measures.{address}
+use Rattle.measure.specs.Words.{andOf}
+use Rattle.fuse.specs.Byte.{storedByte, levelOf, writeProtectionOf}
+use Rattle.permission.specs.Table.{rowOf, allows}
+use Rattle.flash.specs.Parts.{blank}
+use Rattle.flash.specs.Operations.{readWord}
+use Rattle.part.specs.Descriptions.{valid, generalWords, auxiliaryWords, bench}
+use Rattle.part.specs.Places.{vectorWords, placeOf, running, targetOf}
+use Rattle.event.specs.Events.{wellFormed}
+use Rattle.device.specs.Rules.{readIn, ownRule, ruleFrom, decide}
+use Rattle.device.specs.CarryingOut.{blankLatches, withFuse, clears, carryOut}
+use Rattle.device.specs.OneEvent.{eventOn, step}
+use Rattle.device.specs.Alike.{Device, stepOn, highIn, issuedFrom, Alike}
+use Rattle.device.specs.declared.State.{State}
+use Rattle.event.specs.declared.Event.{Event}
+use Rattle.event.specs.declared.Event.the-variants.{TableRead, EraseGeneral, EraseAuxiliary}
+use Rattle.part.specs.declared.FlashArray.{FlashArray}
+use Rattle.part.specs.declared.FlashArray.the-variants.{GeneralArray, AuxiliaryArray}
+
+-- a new state but for its PC and the fuse byte of S
+abbrev pub stateAt : FlashArray → ℕ → ℕ → State
+stateAt S pc byte = withFuse (record { pc = address pc; iopuwr = false; stopped = false; fgs = 0x03; fas = 0x03; latches = blankLatches }) S byte
+
+-- the bench device in that state, blank but for the first word of S: 0x000200 in GS, 0x7FF000 in AS
+abbrev pub deviceWith : FlashArray → ℕ → ℕ → ℕ → Device
+deviceWith GeneralArray pc byte word =
+    record {
+      state = stateAt GeneralArray pc byte;
+      general = set (replicate (generalWords bench) blank) vectorWords word;
+      auxiliary = replicate (auxiliaryWords bench) blank;
+    }
+deviceWith AuxiliaryArray pc byte word =
+    record {
+      state = stateAt AuxiliaryArray pc byte;
+      general = replicate (generalWords bench) blank;
+      auxiliary = set (replicate (auxiliaryWords bench) blank) 0 word;
+    }
+
+-- whatever two words stand there, the devices are alike but for S
+pub alike-but : (S : FlashArray) (pc byte word word′ : ℕ) → Alike S (deviceWith S pc byte word) (deviceWith S pc byte word′)
+alike-but GeneralArray pc byte word word′ =
+    record {
+      state = refl;
+      other = refl;
+      lengths = simp length-set;
+      vectors = front word ∙ sym (front word′);
+    }
+  where
+    general : List ℕ
+    general = replicate (generalWords bench) blank
+
+    front : (w : ℕ) → take vectorWords (set general vectorWords w) ≡ take vectorWords general
+    front w = take-set-le vectorWords general vectorWords w (omega arith)
+alike-but AuxiliaryArray pc byte word word′ = record { state = refl; other = refl; lengths = simp length-set; vectors = refl }
+
+-- S, PC, its fuse byte, an event; then whether S is at high level, whether its own code issues the event, the answer's number,
+-- and its value on the devices with the words 1 and 2
+pub data Pair : Type 0 where
+  Answers : FlashArray → ℕ → ℕ → Event → Bool → Bool → ℕ → ℕ → ℕ → Pair
+
+-- the pair, with what the definitions compute in the place of what it says
+unfoldable pub computed : Pair → Pair
+computed (Answers S pc byte event high own number first second) =
+    Answers S pc byte event (highIn bench S (stateAt S pc byte)) (issuedFrom bench S (stateAt S pc byte))
+    (stepOn bench (deviceWith S pc byte 1) event .number)
+    (stepOn bench (deviceWith S pc byte 1) event .value)
+    (stepOn bench (deviceWith S pc byte 2) event .value)
+
+unfoldable pub pairs : List Pair
+pairs =
+    -- AS at level none, read by GS: the answers differ, so the premise is needed; AS high, by AS itself: the words do differ;
+    -- AS high, by GS: zeroed on both
+    Answers AuxiliaryArray 0x000400 0x03 (TableRead (address 0x7FF000)) false false 0 1 2
+    ∷ Answers AuxiliaryArray 0x7FF000 0x31 (TableRead (address 0x7FF000)) true true 0 1 2
+    ∷ Answers AuxiliaryArray 0x000400 0x31 (TableRead (address 0x7FF000)) true false 1 0 0
+    -- the same three of GS
+    ∷ Answers GeneralArray 0x7FF000 0x03 (TableRead (address 0x000200)) false false 0 1 2
+    ∷ Answers GeneralArray 0x000400 0x31 (TableRead (address 0x000200)) true true 0 1 2
+    ∷ Answers GeneralArray 0x7FF000 0x31 (TableRead (address 0x000200)) true false 1 0 0
+    -- at high level the clearing erase is done, at the other segment's request
+    ∷ Answers AuxiliaryArray 0x000400 0x31 EraseAuxiliary true false 0 0 0
+    ∷ Answers GeneralArray 0x7FF000 0x31 EraseGeneral true false 0 0 0
+    ∷ []
+
+pub not-empty : map computed pairs ≡ pairs
+unfolding computed pairs levelOf storedByte andOf writeProtectionOf step valid wellFormed eventOn decide running placeOf ruleFrom ownRule readIn targetOf allows rowOf carryOut clears readWord
+not-empty = refl
