@@ -250,7 +250,7 @@ fn clear(array: FlashArray, state: State, general: &mut [u32], auxiliary: &mut [
 }
 
 // A decision, on a device of this page size.
-pub fn carry_out(
+pub(crate) fn carry_out(
     page: usize,
     state: State,
     decision: Decision,

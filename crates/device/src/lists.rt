@@ -18,7 +18,7 @@ ghost use Rattle.device.specs.Slots.{eventAt, stored};
 const MOST_EVENTS: usize = 4096;
 
 // Whether a list of this length, with so many slots, can be run.
-pub fn is_good_list(list: usize, slots: usize) -> bool
+pub(crate) fn is_good_list(list: usize, slots: usize) -> bool
     ensures { λ r. ⌜ r ≡ goodList list slots ⌝ }
 {
     let whole = list % 3 == 0;
@@ -110,7 +110,7 @@ fn ended(count: usize, state: State) -> Ran
 }
 
 // The events of a list that can be run.
-pub fn run_events(
+pub(crate) fn run_events(
     state: State,
     description: Description,
     general: &mut [u32],

@@ -355,7 +355,7 @@ fn is_power_on(event: Event) -> bool
 }
 
 // From power-on: then a stopped device, then a PC that is not executable, then the event's own rule.
-pub fn decide(
+pub(crate) fn decide(
     description: Description,
     pc: ProgramAddress,
     stopped: bool,

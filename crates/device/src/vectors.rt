@@ -31,7 +31,7 @@ fn word_of(general: &[u32], vector: u32) -> u32
 }
 
 // The word of an interrupt's vector; 0 for every other event.
-pub fn vector_word(general: &[u32], event: Event) -> u32
+pub(crate) fn vector_word(general: &[u32], event: Event) -> u32
     ensures { λ r. ⌜ r ≡ vectorWord (take vectorWords (now (general .entry))) event ⌝ }
 {
     match event {

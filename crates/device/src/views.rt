@@ -4,7 +4,12 @@ use part::Place;
 ghost use mathlib.Core.Path.{_≡_};
 ghost use Rattle.device.specs.PageView.{pageIn};
 
-pub fn page_in<'a>(page: usize, general: &'a [u32], auxiliary: &'a [u32], place: Place) -> &'a [u32]
+pub(crate) fn page_in<'a>(
+    page: usize,
+    general: &'a [u32],
+    auxiliary: &'a [u32],
+    place: Place,
+) -> &'a [u32]
     ensures { λ r. ⌜ now r ≡ pageIn page (now (general .entry)) (now (auxiliary .entry)) place ⌝ }
 {
     match place {
