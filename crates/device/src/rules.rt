@@ -1,7 +1,6 @@
 // The rules: what each event comes to. Nothing here looks at flash but for the one vector word, which is handed in.
 use crate::Answer;
 use crate::Decision;
-use crate::State;
 use event::Event;
 use measure::ProgramAddress;
 use part::Description;
@@ -36,7 +35,6 @@ ghost use Rattle.device.specs.Rules.{
   programFas,
   ownRule,
   isPowerOn,
-  ruleFrom,
   decide as decideOf,
 };
 

@@ -146,12 +146,14 @@ fn place_of(description: Description, location: InstructionLocation) -> Place
     Place::Unimplemented
 }
 
+// Where an address lies.
 pub fn place_at(description: Description, address: ProgramAddress) -> Place
     ensures { λ r. ⌜ PlaceAtPromise description address r ⌝ }
 {
     place_of(description, address.location())
 }
 
+// Whether there is memory.
 pub fn is_implemented(place: Place) -> bool
     ensures { λ r. ⌜ IsImplementedPromise place r ⌝ }
 {
@@ -161,6 +163,7 @@ pub fn is_implemented(place: Place) -> bool
     }
 }
 
+// Whether a place lies in the Auxiliary Segment.
 pub fn is_auxiliary(place: Place) -> bool
     ensures { λ r. ⌜ IsAuxiliaryPromise place r ⌝ }
 {
@@ -193,6 +196,7 @@ fn running_in(pc: ProgramAddress, place: Place) -> Running
     }
 }
 
+// Whose code runs at a PC, any 32-bit number.
 pub fn running_at(description: Description, pc: ProgramAddress) -> Running
     ensures { λ r. ⌜ RunningAtPromise description pc r ⌝ }
 {
@@ -203,6 +207,7 @@ pub fn running_at(description: Description, pc: ProgramAddress) -> Running
     }
 }
 
+// Whether the General Segment's code asks.
 pub fn from_general(origin: Origin) -> bool
     ensures { λ r. ⌜ FromGeneralPromise origin r ⌝ }
 {
@@ -238,6 +243,7 @@ fn byte_of(fgs: u8, fas: u8, segment: Segment) -> u8
     }
 }
 
+// The column of a segment in table 23-1, by the two fuse bytes.
 pub fn target_of(keys: bool, fgs: u8, fas: u8, segment: Segment) -> Target
     ensures { λ r. ⌜ TargetOfPromise keys fgs fas segment r ⌝ }
 {
