@@ -1,0 +1,149 @@
+// The static library: the device over plain numbers, for programs in C and Rust. include/pinionclay.h is its header.
+use device::State;
+use event::Decoded;
+use measure::ProgramAddress;
+use part::Description;
+ghost use mathlib.Core.Path.{_≡_};
+ghost use lib.ListN.{length};
+ghost use Rattle.pinionclay.specs.Numbers.{flagNumber, descriptionOf, stateOf, numbersOf};
+ghost use Rattle.pinionclay.specs.Calls.{written};
+ghost use Rattle.pinionclay.specs.Promises.{PinionclayRunPromise, PinionclayStepPromise};
+
+// The numbers of a state before its latches.
+const REGISTERS: usize = 5;
+
+// The numbers of a state.
+const NUMBERS: usize = 69;
+
+fn flag_number(set: bool) -> u32
+    ensures { λ r. ⌜ r ≡ flagNumber set ⌝ }
+{
+    if set { 1 } else { 0 }
+}
+
+// One list of numbers, over another as long.
+fn copy(from: &[u32], to: &mut [u32])
+    requires { ⌜ length (now from) ≡ length (now to) ⌝ }
+    ensures { λ _. ⌜ now (to .exit) ≡ now (from .entry) ⌝ }
+{
+    let mut at: usize = 0;
+    while at < to.len() {
+        to[at] = from[at];
+        at += 1;
+    }
+}
+
+fn description_of(numbers: &[u32; 5]) -> Description
+    ensures { λ r. ⌜ r ≡ descriptionOf (now (numbers .entry)) ⌝ }
+{
+    Description {
+        page: numbers[0],
+        general: numbers[1],
+        auxiliary: numbers[2],
+        keys: numbers[3] != 0,
+        vector: ProgramAddress(numbers[4]),
+    }
+}
+
+fn state_of(numbers: &[u32]) -> State
+    requires { ⌜ length (now numbers) ≡ 69 ⌝ }
+    ensures { λ r. ⌜ r ≡ stateOf (now (numbers .entry)) ⌝ }
+{
+    let mut latches = [0u32; 64];
+    copy(&numbers[REGISTERS..NUMBERS], &mut latches);
+    State {
+        pc: ProgramAddress(numbers[0]),
+        iopuwr: numbers[1] != 0,
+        stopped: numbers[2] != 0,
+        fgs: (numbers[3] % 256) as u8,
+        fas: (numbers[4] % 256) as u8,
+        latches,
+    }
+}
+
+// The numbers of a state, written back.
+fn write(state: State, numbers: &mut [u32])
+    requires { ⌜ length (now numbers) ≡ 69 ⌝ }
+    ensures { λ _. ⌜ now (numbers .exit) ≡ numbersOf state ⌝ }
+{
+    let latches = state.latches;
+    numbers[0] = state.pc.0;
+    numbers[1] = flag_number(state.iopuwr);
+    numbers[2] = flag_number(state.stopped);
+    numbers[3] = state.fgs as u32;
+    numbers[4] = state.fas as u32;
+    copy(&latches, &mut numbers[REGISTERS..NUMBERS]);
+}
+
+// The state's numbers after an answer of this number: a refusal leaves them as they were.
+fn write_unless_refused(number: u32, state: State, numbers: &mut [u32])
+    requires { ⌜ length (now numbers) ≡ 69 ⌝ }
+    ensures { λ _. ⌜ now (numbers .exit) ≡ written number (now (numbers .entry)) state ⌝ }
+{
+    if number < 6 {
+        write(state, numbers);
+    }
+}
+
+// A list of events on the device of these numbers; the result is the run's own answer.
+#[no_mangle]
+pub extern "C" fn pinionclay_run(
+    description: &[u32; 5],
+    state: &mut [u32; 69],
+    gs: &mut [u32],
+    aux: &mut [u32],
+    events: &[u32],
+    limit: usize,
+    slots: &mut [u32],
+    count: &mut usize,
+) -> u32
+    ensures { λ r. ⌜ PinionclayRunPromise (now (description .entry)) (now (state .entry)) (now (gs .entry)) (now (aux .entry))
+        (now (events .entry)) limit (now (slots .entry)) r (now (state .exit)) (now (gs .exit)) (now (aux .exit)) (now (slots .exit)) (now (count .exit)) ⌝ }
+{
+    let before = state_of(state);
+    let ran = before.run(description_of(description), gs, aux, events, slots, limit);
+    let answer = ran.answer;
+    let after = ran.state;
+    let number = answer.number();
+    *count = ran.count;
+    write_unless_refused(number, after, state);
+    number
+}
+
+// One event on the device of these numbers; the result is the event's answer.
+#[no_mangle]
+pub extern "C" fn pinionclay_step(
+    description: &[u32; 5],
+    state: &mut [u32; 69],
+    gs: &mut [u32],
+    aux: &mut [u32],
+    kind: u32,
+    a: u32,
+    b: u32,
+    value: &mut u32,
+) -> u32
+    ensures { λ r. ⌜ PinionclayStepPromise (now (description .entry)) (now (state .entry)) (now (gs .entry)) (now (aux .entry))
+        kind a b r (now (state .exit)) (now (gs .exit)) (now (aux .exit)) (now (value .exit)) ⌝ }
+{
+    *value = 0;
+    let part = description_of(description);
+    if !part::is_valid(part) {
+        return 7;
+    }
+    if !part::is_sized(part, gs.len(), aux.len()) {
+        return 8;
+    }
+    match event::decode(kind, a, b) {
+        Decoded::Malformed => 6,
+        Decoded::WellFormed(event) => {
+            let before = state_of(state);
+            let stepped = before.step(part, gs, aux, event);
+            let answer = stepped.answer;
+            let after = stepped.state;
+            let number = answer.number();
+            *value = answer.value();
+            write_unless_refused(number, after, state);
+            number
+        }
+    }
+}
