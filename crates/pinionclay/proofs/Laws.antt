@@ -9,15 +9,16 @@ use lib.ListN.{length, take, drop, getD, set, length-drop, drop-of-length-le}
 use borrow.Rule.Slice.PartMut.{putMid}
 use native.Mathlib.Omega.{arith}
 use lib.Seq.{drop-length, take-all}
+use lib.Dec.{eqb}
+use Rattle.measure.specs.Choice.{if_then_else_}
+use Rattle.measure.specs.Tests.{byValue}
 use Rattle.part.specs.Descriptions.{valid, sized}
 use Rattle.event.specs.Events.{decode}
-use Rattle.device.specs.OneEvent.{step}
-use Rattle.device.specs.StepByStep.{run-by-steps}
-use Rattle.pinionclay.specs.Calls.{stepOf}
+use Rattle.device.specs.CarryingOut.{Left}
+use Rattle.device.specs.Lists.{RunLeft, run, traceOf, decodedOn, endsRun}
+use Rattle.pinionclay.specs.Calls.{StepNumbers, stepNumbers, stepOf}
 use Rattle.part.specs.declared.Description.{Description}
 use Rattle.device.specs.declared.State.{State}
-use Rattle.event.specs.declared.Event.{Event}
-use Rattle.event.specs.declared.Decoded.the-variants.{WellFormed}
 
 -- the first words of one list, and then the other's
 abbrev pub copied : ℕ → List ℕ → List ℕ → List ℕ
@@ -55,14 +56,31 @@ written-is (v ∷ w ∷ x ∷ y ∷ []) a b c d e latches h = absurd (omega (ari
 written-is (v ∷ w ∷ x ∷ y ∷ z ∷ rest) a b c d e latches h =
     ap (λ (t : List ℕ). a ∷ b ∷ c ∷ d ∷ e ∷ latches ++ t) (drop-of-length-le rest {i = 64} (omega (arith, h))) ∙ rw append-nil
 
--- on a good device, three numbers that say an event are that event's step
-pub step-of-event : (d : Description) (s : State) (g x : List ℕ) (kind a b : ℕ) (event : Event)
-    → valid d ≡ true → sized d (length g) (length x) ≡ true → decode kind a b ≡ WellFormed event
-    → step d s g x event ≡ stepOf d s g x kind a b
-unfolding stepOf
-step-of-event d s g x kind a b event v z e = rw (v, z) (sym (run-by-steps d s g x kind a b event v z e))
-
 -- the numbers that are written are as many as were lent
 pub written-length : (numbers : List ℕ) (a b c d e : ℕ) (latches : List ℕ) → length numbers ≡ 69 → length latches ≡ 64
     → length (putMid 5 64 (set (set (set (set (set numbers 0 a) 1 b) 2 c) 3 d) 4 e) latches) ≡ length numbers
 written-length numbers a b c d e latches h k = rw (written-is numbers a b c d e latches h, h) (omega (arith, k))
+
+-- what a step reads off the run of its list of one
+abbrev pub readOff : List ℕ → RunLeft → StepNumbers
+readOff numbers l =
+    if eqb (l .count) 0
+    then record { number = l .number; state = numbers; general = l .general; auxiliary = l .auxiliary; value = 0 }
+    else stepNumbers numbers
+    record {
+      number = getD (l .slots) 0 0;
+      value = getD (l .slots) 1 0;
+      state = l .state;
+      general = l .general;
+      auxiliary = l .auxiliary;
+    }
+
+pub one-event : (numbers : List ℕ) (d : Description) (s : State) (g x : List ℕ) (kind a b : ℕ)
+    → readOff numbers (run d s g x (kind ∷ a ∷ b ∷ []) (0 ∷ 0 ∷ []) 1) ≡ stepNumbers numbers (stepOf d s g x kind a b)
+unfolding run traceOf stepOf
+one-event numbers d s g x kind a b =
+    byValue (valid d)
+    (λ v. byValue (sized d (length g) (length x))
+    (λ z. byValue (endsRun ((decodedOn d s g x (decode kind a b)) .number)) (λ e. rw (v, z, e)) (λ e. rw (v, z, e)))
+    (λ z. rw (v, z)))
+    (λ v. rw v)

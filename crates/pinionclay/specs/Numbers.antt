@@ -1,8 +1,10 @@
 -- A description and a state as plain numbers, for callers in C and Rust. Assumes nothing.
 use Prim.Native.Nat.{ℕ, _%_}
-use mathlib.Core.Bool.{Bool, not}
+use mathlib.Core.Path.{_≡_, refl}
+use mathlib.Core.Bool.{Bool, true, false, not}
 use mathlib.Core.List.{List, _∷_}
-use lib.Dec.{eqb, leb}
+use native.Mathlib.Nat.{mod-mod}
+use lib.Dec.{eqb}
 use lib.ListN.{getD, drop}
 use Rattle.measure.specs.Choice.{if_then_else_}
 use Rattle.measure.specs.Measures.{address}
@@ -43,3 +45,11 @@ flagNumber set = if set then 1 else 0
 -- the state's numbers, in the same order
 abbrev pub numbersOf : State → List ℕ
 numbersOf s = s .pc .0 ∷ flagNumber (s .iopuwr) ∷ flagNumber (s .stopped) ∷ s .fgs ∷ s .fas ∷ s .latches
+
+flag-back : (set : Bool) → isSet (flagNumber set) ≡ set
+flag-back true = refl
+flag-back false = refl
+
+-- numbers that were written back say the same state again
+pub read-back : (numbers : List ℕ) → stateOf (numbersOf (stateOf numbers)) ≡ stateOf numbers
+read-back numbers = rw (flag-back (isSet (getD numbers 1 0)), flag-back (isSet (getD numbers 2 0)), mod-mod, mod-mod)

@@ -1,6 +1,5 @@
 // The static library: the device over plain numbers, for programs in C and Rust. include/pinionclay.h is its header.
 use device::State;
-use event::Decoded;
 use measure::ProgramAddress;
 use part::Description;
 ghost use mathlib.Core.Path.{_≡_};
@@ -110,7 +109,7 @@ pub extern "C" fn pinionclay_run(
     number
 }
 
-// One event on the device of these numbers; the result is the event's answer.
+// One event, as a list of one, on the device of these numbers; the result is the event's answer.
 #[no_mangle]
 pub extern "C" fn pinionclay_step(
     description: &[u32; 5],
@@ -125,25 +124,25 @@ pub extern "C" fn pinionclay_step(
     ensures { λ r. ⌜ PinionclayStepPromise (now (description .entry)) (now (state .entry)) (now (gs .entry)) (now (aux .entry))
         kind a b r (now (state .exit)) (now (gs .exit)) (now (aux .exit)) (now (value .exit)) ⌝ }
 {
-    *value = 0;
-    let part = description_of(description);
-    if !part::is_valid(part) {
-        return 7;
+    let list = [kind, a, b];
+    let mut answered = [0u32; 2];
+    let before = state_of(state);
+    let ran = before.run(
+        description_of(description),
+        gs,
+        aux,
+        &list,
+        &mut answered,
+        1,
+    );
+    let answer = ran.answer;
+    let after = ran.state;
+    if ran.count == 0 {
+        *value = 0;
+        return answer.number();
     }
-    if !part::is_sized(part, gs.len(), aux.len()) {
-        return 8;
-    }
-    match event::decode(kind, a, b) {
-        Decoded::Malformed => 6,
-        Decoded::WellFormed(event) => {
-            let before = state_of(state);
-            let stepped = before.step(part, gs, aux, event);
-            let answer = stepped.answer;
-            let after = stepped.state;
-            let number = answer.number();
-            *value = answer.value();
-            write_unless_refused(number, after, state);
-            number
-        }
-    }
+    let number = answered[0];
+    *value = answered[1];
+    write_unless_refused(number, after, state);
+    number
 }
