@@ -1,7 +1,7 @@
 -- The laws of `specs/`: what a good description bounds. Assumes nothing.
 use mathlib.Core.Path.{_≡_, refl, sym, ap, _∙_}
 use mathlib.Core.Bool.{Bool, true, false, _&&_, _||_, false≢true}
-use mathlib.Core.List.{List}
+use mathlib.Core.List.{List, []}
 use Prim.Native.Nat.{ℕ, _+_, _*_, _-_, _%_, _<_, _≤_, _^_}
 use native.Mathlib.Nat.{mul-le-mul, lt-of-le-of-lt, mod-eq-of-lt}
 use native.Mathlib.Omega.{arith}
@@ -20,7 +20,11 @@ use Rattle.flash.specs.declared.WordFound.the-variants.{Word, NoWord}
 use Rattle.permission.specs.declared.Origin.{Origin}
 use Rattle.measure.specs.Measures.{even}
 use Rattle.part.specs.Descriptions.{goodPage, goodGeneral, goodAuxiliary, goodVector, valid, generalWords, auxiliaryWords}
-use Rattle.device.specs.CarryingOut.{wordOrZero}
+use Rattle.device.specs.CarryingOut.{withFuse, wordOrZero}
+use Rattle.device.specs.Internals.{registersOf, stateOf}
+use Rattle.device.specs.declared.Registers.{Registers}
+use Rattle.part.specs.declared.FlashArray.{FlashArray}
+use Rattle.part.specs.declared.FlashArray.the-variants.{GeneralArray, AuxiliaryArray}
 use Rattle.part.specs.Places.{vectorWords, auxiliaryEnd, auxiliaryFirst, placeOf, placeAt, isImplemented, runningIn, running}
 use Rattle.event.specs.Events.{goodByte, given}
 use Rattle.part.specs.declared.Description.{Description}
@@ -121,3 +125,9 @@ pub no-vector : (flash : List ℕ) (vector : ℕ) → 254 ≤ vector → 0 ≡ w
 no-vector flash vector h =
     let past : length (take vectorWords flash) ≤ 2 + vector = simp length-take (omega arith) in
     rw (List·getD-eq-default (take vectorWords flash) 0 past)
+
+-- a fuse byte is stored beside the latches
+pub fuse-beside : (r : Registers) (latches : List ℕ) (array : FlashArray) (byte : ℕ)
+    → stateOf (registersOf (withFuse (stateOf r []) array byte)) latches ≡ withFuse (stateOf r latches) array byte
+fuse-beside r latches GeneralArray byte = refl
+fuse-beside r latches AuxiliaryArray byte = refl

@@ -15,7 +15,7 @@ use Rattle.measure.specs.Tests.{and-left, and-right}
 use Rattle.device.specs.Answers.{numberOf, valueOf}
 use Rattle.event.specs.Events.{decode}
 use Rattle.device.specs.CarryingOut.{Left, leaves}
-use Rattle.device.specs.Slots.{eventAt, stored}
+use Rattle.device.specs.Internals.{eventAt, stored}
 use Rattle.device.specs.Lists.{decodedOn, endsRun, Trace, noEvent, andThen, traceOf, RunLeft, ranTo, told, goodList}
 use Rattle.part.specs.declared.Description.{Description}
 use Rattle.device.specs.declared.State.{State}

@@ -15,7 +15,7 @@ use Rattle.flash.specs.declared.WordFound.{WordFound}
 use Rattle.flash.specs.declared.RowProgrammed.{RowProgrammed}
 use Rattle.flash.specs.declared.RowProgrammed.the-variants.{BitsNotSet, NoRow}
 use Rattle.device.specs.Answers.{numberOf, valueOf}
-use Rattle.device.specs.CarryingOut.{Left, leaves, blankLatches, withPc, withLatches, withFuse, trapped, resetBySecurity, poweredOn, readAnswer, rowAnswer, rowState, eraseAnswer, leavesIn, programs, erases, clears, carryOut}
+use Rattle.device.specs.CarryingOut.{Left, leaves, blankLatches, withPc, withLatches, withFuse, trapped, resetBySecurity, poweredOn, readAnswer, rowAnswer, rowLatches, eraseAnswer, leavesIn, programs, erases, clears, carryOut}
 use Rattle.device.specs.Alike.{Device, deviceLeft, vectorsIn, otherArray, fuseOf, highIn, wordsIn, Alike, stillHigh, allSame, Agree}
 use Rattle.device.specs.Harmless.{OwnRow, harmless}
 use Rattle.measure.specs.Tests.{byValue, never}
@@ -94,10 +94,6 @@ module _ (u v : List ℕ) (n : ℕ) where
       let word : getD u n 0 ≡ getD v n 0 =
       sym (getD-take k u n 0 h) ∙ ap (λ (l : List ℕ). getD l n 0) (f .front) ∙ getD-take k v n 0 h in
       rw (word, f .lengths)
-
-row-high : (d : Description) (S : FlashArray) (s : State) (row : RowProgrammed) → highIn d S s ≡ true → highIn d S (rowState s row) ≡ true
-row-high d S s (BitsNotSet bits) h = h
-row-high d S s NoRow h = h
 
 -- the fuse byte of S after a byte was stored: in it, or in the other
 stored-own : (S : FlashArray) (s : State) (byte : ℕ) → fuseOf S (withFuse s S byte .fgs) (withFuse s S byte .fas) ≡ byte
@@ -223,7 +219,7 @@ module _ (d : Description) (own : Bool) (p q : Device) where
         byArray S (λ array. Outcomes (ProgramAt array n)) (λ z. row-carried n (z refl))
         (λ z.
         let row : RowProgrammed = programRow (wordsIn (otherArray S) q) n (s .latches) .answer in
-        rw (k .other) (elsewhere S (rowState s row) (rowAnswer row) _ k (row-high d S s row h)))
+        rw (k .other) (elsewhere S (withLatches s (rowLatches (s .latches) row)) (rowAnswer row) _ k h))
         array
     carried (EraseAt array n) =
         byArray S (λ array. Outcomes (EraseAt array n)) (λ z. page-carried n (z refl))

@@ -97,9 +97,9 @@ rowAnswer (BitsNotSet bits) = Done bits
 rowAnswer NoRow = NotStarted
 
 -- Rule 6: "then all latches become 0xFFFFFF"
-abbrev pub rowState : State → RowProgrammed → State
-rowState s (BitsNotSet bits) = withLatches s blankLatches
-rowState s NoRow = s
+abbrev pub rowLatches : List ℕ → RowProgrammed → List ℕ
+rowLatches latches (BitsNotSet bits) = blankLatches
+rowLatches latches NoRow = latches
 
 abbrev pub eraseAnswer : RangeErased → Answer
 eraseAnswer Blank = Done 0
@@ -118,7 +118,7 @@ leavesIn AuxiliaryArray answer s g x new = leaves answer s g new
 unfoldable pub programs : FlashArray → ℕ → State → List ℕ → List ℕ → Left
 programs array n s g x =
     let row = programRow (arrayOf array g x) n (s .latches) in
-    leavesIn array (rowAnswer (row .answer)) (rowState s (row .answer)) g x (row .flash)
+    leavesIn array (rowAnswer (row .answer)) (withLatches s (rowLatches (s .latches) (row .answer))) g x (row .flash)
 
 -- Rule 7: the page that holds the word, erased
 unfoldable pub erases : ℕ → FlashArray → ℕ → State → List ℕ → List ℕ → Left

@@ -2,7 +2,7 @@ pub mod Answers
 pub mod Rules
 pub mod CarryingOut
 pub mod OneEvent
-pub mod Slots
+pub mod Internals
 pub mod Lists
 pub mod PageView
 pub mod Promises

@@ -1,28 +1,30 @@
 // Carrying out: what a decision does to the state and the two lent arrays.
 use crate::Answer;
+use crate::Carried;
 use crate::Decision;
+use crate::Registers;
 use crate::State;
-use crate::Stepped;
 use flash::RangeErased;
 use flash::RowProgrammed;
 use flash::WordFound;
 use measure::ProgramAddress;
 use part::FlashArray;
 ghost use mathlib.Core.Path.{_≡_};
+ghost use mathlib.Core.List.{[]};
 ghost use lib.ListN.{set};
-ghost use Rattle.flash.specs.Operations.{readWord, programRow, erasePage};
+ghost use Rattle.flash.specs.Operations.{readWord};
+ghost use Rattle.device.specs.Internals.{registersOf, stateOf};
 ghost use Rattle.device.specs.CarryingOut.{
   leaves,
   blankLatches,
   withPc,
-  withLatches,
   withFuse,
   trapped as trappedOf,
   resetBySecurity,
   poweredOn,
   readAnswer,
   rowAnswer,
-  rowState,
+  rowLatches,
   eraseAnswer,
   arrayOf,
   carryOut,
@@ -34,57 +36,22 @@ ghost use Rattle.device.specs.CarryingOut.{
 // A fuse byte that was cleared: level none, writable.
 const CLEARED: u8 = 0x03;
 
-fn with_pc(state: State, pc: ProgramAddress) -> State
-    ensures { λ r. ⌜ r ≡ withPc state pc ⌝ }
+fn with_pc(registers: Registers, pc: ProgramAddress) -> Registers
+    ensures { λ r. ⌜ r ≡ registersOf (withPc (stateOf registers []) pc) ⌝ }
 {
-    let latches = state.latches;
-    State {
+    Registers {
         pc,
-        iopuwr: state.iopuwr,
-        stopped: state.stopped,
-        fgs: state.fgs,
-        fas: state.fas,
-        latches,
+        iopuwr: registers.iopuwr,
+        stopped: registers.stopped,
+        fgs: registers.fgs,
+        fas: registers.fas,
     }
 }
 
-fn with_latch(state: State, latch: usize, word: u32) -> State
-    ensures { λ r. ⌜ r ≡ withLatches state (set (state .latches) latch word) ⌝ }
+fn with_fuse(registers: Registers, array: FlashArray, byte: u8) -> Registers
+    ensures { λ r. ⌜ r ≡ registersOf (withFuse (stateOf registers []) array byte) ⌝ }
 {
-    let pc = state.pc;
-    let mut latches = state.latches;
-    if latch < 64 {
-        latches[latch] = word;
-        return State {
-            pc,
-            iopuwr: state.iopuwr,
-            stopped: state.stopped,
-            fgs: state.fgs,
-            fas: state.fas,
-            latches,
-        };
-    }
-    state
-}
-
-fn with_blank_latches(state: State) -> State
-    ensures { λ r. ⌜ r ≡ withLatches state blankLatches ⌝ }
-{
-    let pc = state.pc;
-    State {
-        pc,
-        iopuwr: state.iopuwr,
-        stopped: state.stopped,
-        fgs: state.fgs,
-        fas: state.fas,
-        latches: [0xFFFFFF; 64],
-    }
-}
-
-fn with_fuse(state: State, array: FlashArray, byte: u8) -> State
-    ensures { λ r. ⌜ r ≡ withFuse state array byte ⌝ }
-{
-    let mut changed = state;
+    let mut changed = registers;
     match array {
         FlashArray::GeneralArray => {
             changed.fgs = byte;
@@ -97,38 +64,51 @@ fn with_fuse(state: State, array: FlashArray, byte: u8) -> State
     }
 }
 
-fn trapped(state: State) -> State
-    ensures { λ r. ⌜ r ≡ trappedOf state ⌝ }
+fn trapped(registers: Registers) -> Registers
+    ensures { λ r. ⌜ r ≡ registersOf (trappedOf (stateOf registers [])) ⌝ }
 {
-    let mut changed = state;
+    let mut changed = registers;
     changed.stopped = true;
     changed
 }
 
-fn reset_by_security(state: State) -> State
-    ensures { λ r. ⌜ r ≡ resetBySecurity state ⌝ }
+fn reset_by_security(registers: Registers) -> Registers
+    ensures { λ r. ⌜ r ≡ registersOf (resetBySecurity (stateOf registers [])) ⌝ }
 {
-    State {
+    Registers {
         pc: ProgramAddress(0),
         iopuwr: true,
-        stopped: state.stopped,
-        fgs: state.fgs,
-        fas: state.fas,
-        latches: [0xFFFFFF; 64],
+        stopped: registers.stopped,
+        fgs: registers.fgs,
+        fas: registers.fas,
     }
 }
 
-fn powered_on(state: State) -> State
-    ensures { λ r. ⌜ r ≡ poweredOn state ⌝ }
+fn powered_on(registers: Registers) -> Registers
+    ensures { λ r. ⌜ r ≡ registersOf (poweredOn (stateOf registers [])) ⌝ }
 {
-    State {
+    Registers {
         pc: ProgramAddress(0),
         iopuwr: false,
         stopped: false,
-        fgs: state.fgs,
-        fas: state.fas,
-        latches: [0xFFFFFF; 64],
+        fgs: registers.fgs,
+        fas: registers.fas,
     }
+}
+
+fn load(latches: &mut [u32], latch: u32, word: u32)
+    ensures { λ _. ⌜ now (latches .exit) ≡ set (now (latches .entry)) latch word ⌝ }
+{
+    let index = latch as usize;
+    if index < latches.len() {
+        latches[index] = word;
+    }
+}
+
+fn blank(latches: &mut [u32; 64])
+    ensures { λ _. ⌜ now (latches .exit) ≡ blankLatches ⌝ }
+{
+    *latches = [0xFFFFFF; 64];
 }
 
 fn read_answer(found: WordFound) -> Answer
@@ -149,12 +129,13 @@ fn row_answer(programmed: RowProgrammed) -> Answer
     }
 }
 
-fn row_state(state: State, programmed: RowProgrammed) -> State
-    ensures { λ r. ⌜ r ≡ rowState state programmed ⌝ }
+// A row that was programmed used the latches up.
+fn use_up(latches: &mut [u32; 64], programmed: RowProgrammed)
+    ensures { λ _. ⌜ now (latches .exit) ≡ rowLatches (now (latches .entry)) programmed ⌝ }
 {
     match programmed {
-        RowProgrammed::BitsNotSet(_) => with_blank_latches(state),
-        RowProgrammed::NoRow => state,
+        RowProgrammed::BitsNotSet(_) => blank(latches),
+        RowProgrammed::NoRow => {}
     }
 }
 
@@ -167,41 +148,42 @@ fn erase_answer(erased: RangeErased) -> Answer
     }
 }
 
-fn answered(answer: Answer, state: State) -> Stepped
-    ensures { λ r. ⌜ r ≡ record { answer = answer; state = state } ⌝ }
+fn carried(answer: Answer, registers: Registers) -> Carried
+    ensures { λ r. ⌜ r ≡ record { answer = answer; registers = registers } ⌝ }
 {
-    Stepped { answer, state }
+    Carried { answer, registers }
 }
 
-fn read(array: FlashArray, index: usize, general: &[u32], auxiliary: &[u32]) -> Answer
+fn read(array: FlashArray, index: u32, general: &[u32], auxiliary: &[u32]) -> Answer
     ensures { λ r. ⌜ r ≡ readAnswer (readWord (arrayOf array (now (general .entry)) (now (auxiliary .entry))) index) ⌝ }
 {
     match array {
-        FlashArray::GeneralArray => read_answer(flash::read_word(general, index)),
-        FlashArray::AuxiliaryArray => read_answer(flash::read_word(auxiliary, index)),
+        FlashArray::GeneralArray => read_answer(flash::read_word(general, index as usize)),
+        FlashArray::AuxiliaryArray => read_answer(flash::read_word(auxiliary, index as usize)),
     }
 }
 
 // The row of an array that holds the index, from the latches, which are blank afterwards.
 fn program(
     array: FlashArray,
-    index: usize,
-    state: State,
+    index: u32,
+    latches: &mut [u32; 64],
     general: &mut [u32],
     auxiliary: &mut [u32],
-) -> Stepped
-    ensures { λ r. ⌜ leaves (r .answer) (r .state) (now (general .exit)) (now (auxiliary .exit))
-        ≡ programsOf array index state (now (general .entry)) (now (auxiliary .entry)) ⌝ }
+) -> Answer
+    ensures { λ r. ⌜ ((registers : Registers) → leaves r (stateOf registers (now (latches .exit))) (now (general .exit)) (now (auxiliary .exit))
+        ≡ programsOf array index (stateOf registers (now (latches .entry))) (now (general .entry)) (now (auxiliary .entry))) ⌝ }
 {
-    let latches = state.latches;
     match array {
         FlashArray::GeneralArray => {
-            let programmed = flash::program_row(general, index, latches);
-            answered(row_answer(programmed), row_state(state, programmed))
+            let programmed = flash::program_row(general, index as usize, latches);
+            use_up(latches, programmed);
+            row_answer(programmed)
         }
         FlashArray::AuxiliaryArray => {
-            let programmed = flash::program_row(auxiliary, index, latches);
-            answered(row_answer(programmed), row_state(state, programmed))
+            let programmed = flash::program_row(auxiliary, index as usize, latches);
+            use_up(latches, programmed);
+            row_answer(programmed)
         }
     }
 }
@@ -210,41 +192,36 @@ fn program(
 fn erase(
     page: usize,
     array: FlashArray,
-    index: usize,
-    state: State,
+    index: u32,
     general: &mut [u32],
     auxiliary: &mut [u32],
-) -> Stepped
-    ensures { λ r. ⌜ leaves (r .answer) (r .state) (now (general .exit)) (now (auxiliary .exit))
-        ≡ erasesOf page array index state (now (general .entry)) (now (auxiliary .entry)) ⌝ }
+) -> Answer
+    ensures { λ r. ⌜ ((state : State) → leaves r state (now (general .exit)) (now (auxiliary .exit))
+        ≡ erasesOf page array index state (now (general .entry)) (now (auxiliary .entry))) ⌝ }
 {
     match array {
-        FlashArray::GeneralArray => answered(
-            erase_answer(flash::erase_page(general, page, index)),
-            state,
-        ),
-        FlashArray::AuxiliaryArray => answered(
-            erase_answer(flash::erase_page(auxiliary, page, index)),
-            state,
-        ),
+        FlashArray::GeneralArray => erase_answer(flash::erase_page(general, page, index as usize)),
+        FlashArray::AuxiliaryArray => erase_answer(flash::erase_page(
+            auxiliary,
+            page,
+            index as usize,
+        )),
     }
 }
 
-// A whole array, with its fuse byte.
-fn clear(array: FlashArray, state: State, general: &mut [u32], auxiliary: &mut [u32]) -> Stepped
-    ensures { λ r. ⌜ leaves (r .answer) (r .state) (now (general .exit)) (now (auxiliary .exit))
-        ≡ clearsOf array state (now (general .entry)) (now (auxiliary .entry)) ⌝ }
+// A whole array.
+fn clear(array: FlashArray, general: &mut [u32], auxiliary: &mut [u32])
+    ensures { λ _. ⌜ ((state : State) → leaves (Answer.Done 0) (withFuse state array 0x03) (now (general .exit)) (now (auxiliary .exit))
+        ≡ clearsOf array state (now (general .entry)) (now (auxiliary .entry))) ⌝ }
 {
     match array {
         FlashArray::GeneralArray => {
             let words = general.len();
             flash::erase_range(general, 0, words);
-            answered(Answer::Done(0), with_fuse(state, array, CLEARED))
         }
         FlashArray::AuxiliaryArray => {
             let words = auxiliary.len();
             flash::erase_range(auxiliary, 0, words);
-            answered(Answer::Done(0), with_fuse(state, array, CLEARED))
         }
     }
 }
@@ -252,31 +229,50 @@ fn clear(array: FlashArray, state: State, general: &mut [u32], auxiliary: &mut [
 // A decision, on a device of this page size.
 pub(crate) fn carry_out(
     page: usize,
-    state: State,
+    registers: Registers,
+    latches: &mut [u32; 64],
     decision: Decision,
     general: &mut [u32],
     auxiliary: &mut [u32],
-) -> Stepped
-    ensures { λ r. ⌜ leaves (r .answer) (r .state) (now (general .exit)) (now (auxiliary .exit))
-        ≡ carryOut page state (now (general .entry)) (now (auxiliary .entry)) decision ⌝ }
+) -> Carried
+    ensures { λ r. ⌜ leaves (r .answer) (stateOf (r .registers) (now (latches .exit))) (now (general .exit)) (now (auxiliary .exit))
+        ≡ carryOut page (stateOf registers (now (latches .entry))) (now (general .entry)) (now (auxiliary .entry)) decision ⌝ }
 {
     match decision {
-        Decision::Refuse(answer) => answered(answer, state),
-        Decision::Trap => answered(Answer::AddressTrap, trapped(state)),
-        Decision::Reset => answered(Answer::SecurityReset, reset_by_security(state)),
-        Decision::PowerUp => answered(Answer::Done(0), powered_on(state)),
-        Decision::MoveTo(target) => answered(Answer::Done(0), with_pc(state, target)),
-        Decision::LoadLatch(latch, word) => answered(
-            Answer::Done(0),
-            with_latch(state, latch, word),
+        Decision::Refuse(answer) => carried(answer, registers),
+        Decision::Trap => carried(Answer::AddressTrap, trapped(registers)),
+        Decision::Reset => {
+            blank(latches);
+            carried(Answer::SecurityReset, reset_by_security(registers))
+        }
+        Decision::PowerUp => {
+            blank(latches);
+            carried(Answer::Done(0), powered_on(registers))
+        }
+        Decision::MoveTo(target) => carried(Answer::Done(0), with_pc(registers, target)),
+        Decision::LoadLatch(latch, word) => {
+            load(latches, latch, word);
+            carried(Answer::Done(0), registers)
+        }
+        Decision::ReadAt(array, index) => carried(
+            read(array, index, general, auxiliary),
+            registers,
         ),
-        Decision::ReadAt(array, index) => answered(read(array, index, general, auxiliary), state),
-        Decision::ProgramAt(array, index) => program(array, index, state, general, auxiliary),
-        Decision::EraseAt(array, index) => erase(page, array, index, state, general, auxiliary),
-        Decision::EraseWhole(array) => clear(array, state, general, auxiliary),
-        Decision::StoreFuse(array, byte) => answered(
+        Decision::ProgramAt(array, index) => carried(
+            program(array, index, latches, general, auxiliary),
+            registers,
+        ),
+        Decision::EraseAt(array, index) => carried(
+            erase(page, array, index, general, auxiliary),
+            registers,
+        ),
+        Decision::EraseWhole(array) => {
+            clear(array, general, auxiliary);
+            carried(Answer::Done(0), with_fuse(registers, array, CLEARED))
+        }
+        Decision::StoreFuse(array, byte) => carried(
             Answer::Done(0),
-            with_fuse(state, array, byte),
+            with_fuse(registers, array, byte),
         ),
     }
 }

@@ -7,6 +7,7 @@ ghost use mathlib.Core.Bool.{true};
 ghost use mathlib.Core.Path.{_≡_};
 ghost use Rattle.part.specs.Descriptions.{valid};
 ghost use Rattle.device.specs.CarryingOut.{leaves};
+ghost use Rattle.device.specs.Internals.{registersOf, stateOf};
 ghost use Rattle.device.specs.OneEvent.{eventOn};
 ghost use Rattle.device.specs.Promises.{
   NewPromise,
@@ -57,14 +58,29 @@ pub enum Decision {
     PowerUp,
     MoveTo(ProgramAddress),
     // Latch, word.
-    LoadLatch(usize, u32),
-    ReadAt(FlashArray, usize),
-    ProgramAt(FlashArray, usize),
-    EraseAt(FlashArray, usize),
+    LoadLatch(u32, u32),
+    ReadAt(FlashArray, u32),
+    ProgramAt(FlashArray, u32),
+    EraseAt(FlashArray, u32),
     // Erase the whole array and clear its fuse byte.
     EraseWhole(FlashArray),
     // Store its fuse byte.
     StoreFuse(FlashArray, u8),
+}
+
+// A state but for its latches.
+pub struct Registers {
+    pub pc: ProgramAddress,
+    pub iopuwr: bool,
+    pub stopped: bool,
+    pub fgs: u8,
+    pub fas: u8,
+}
+
+// What carrying out a decision leaves besides the flash and the latches.
+pub struct Carried {
+    pub answer: Answer,
+    pub registers: Registers,
 }
 
 // What one event leaves besides the flash.
@@ -133,38 +149,6 @@ impl State {
         }
     }
 
-    // A well-formed event on a good device: decided, then carried out.
-    fn event(
-        self,
-        description: Description,
-        general: &mut [u32],
-        auxiliary: &mut [u32],
-        event: Event,
-    ) -> Stepped
-        requires { ⌜ valid description ≡ true ⌝ }
-        ensures { λ r. ⌜ leaves (r .answer) (r .state) (now (general .exit)) (now (auxiliary .exit))
-            ≡ eventOn description self (now (general .entry)) (now (auxiliary .entry)) event ⌝ }
-    {
-        let word = vectors::vector_word(general, event);
-        let pc = self.pc;
-        let decision = rules::decide(
-            description,
-            pc,
-            self.stopped,
-            self.fgs,
-            self.fas,
-            word,
-            event,
-        );
-        carrying::carry_out(
-            description.page as usize,
-            self,
-            decision,
-            general,
-            auxiliary,
-        )
-    }
-
     // One event: its answer and the state after it; what it leaves in the flash is in the two lent arrays.
     pub fn step(
         self,
@@ -185,7 +169,21 @@ impl State {
         if !event::is_well_formed(event) {
             return refused(Answer::MalformedEvent, self);
         }
-        self.event(description, general, auxiliary, event)
+        let mut latches = self.latches;
+        let carried = happens(
+            description,
+            registers_of(self),
+            &mut latches,
+            general,
+            auxiliary,
+            event,
+        );
+        let answer = carried.answer;
+        let registers = carried.registers;
+        Stepped {
+            answer,
+            state: joined(registers, latches),
+        }
     }
 
     // A list of events, three numbers each, up to its end, the limit, or the first answer 3 or 4; two slots take each answer.
@@ -212,6 +210,67 @@ impl State {
         }
         lists::run_events(self, description, general, auxiliary, list, slots, limit)
     }
+}
+
+fn registers_of(state: State) -> Registers
+    ensures { λ r. ⌜ r ≡ registersOf state ⌝ }
+{
+    let pc = state.pc;
+    Registers {
+        pc,
+        iopuwr: state.iopuwr,
+        stopped: state.stopped,
+        fgs: state.fgs,
+        fas: state.fas,
+    }
+}
+
+fn joined(registers: Registers, latches: [u32; 64]) -> State
+    ensures { λ r. ⌜ r ≡ stateOf registers latches ⌝ }
+{
+    let pc = registers.pc;
+    State {
+        pc,
+        iopuwr: registers.iopuwr,
+        stopped: registers.stopped,
+        fgs: registers.fgs,
+        fas: registers.fas,
+        latches,
+    }
+}
+
+// A well-formed event on a good device: decided, then carried out.
+fn happens(
+    description: Description,
+    registers: Registers,
+    latches: &mut [u32; 64],
+    general: &mut [u32],
+    auxiliary: &mut [u32],
+    event: Event,
+) -> Carried
+    requires { ⌜ valid description ≡ true ⌝ }
+    ensures { λ r. ⌜ leaves (r .answer) (stateOf (r .registers) (now (latches .exit))) (now (general .exit)) (now (auxiliary .exit))
+        ≡ eventOn description (stateOf registers (now (latches .entry))) (now (general .entry)) (now (auxiliary .entry)) event ⌝ }
+{
+    let word = vectors::vector_word(general, event);
+    let pc = registers.pc;
+    let decision = rules::decide(
+        description,
+        pc,
+        registers.stopped,
+        registers.fgs,
+        registers.fas,
+        word,
+        event,
+    );
+    carrying::carry_out(
+        description.page as usize,
+        registers,
+        latches,
+        decision,
+        general,
+        auxiliary,
+    )
 }
 
 fn refused(answer: Answer, state: State) -> Stepped

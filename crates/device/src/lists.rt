@@ -1,8 +1,9 @@
 // Lists of events: a run, up to its end, the limit, or the first answer 3 or 4.
 use crate::Answer;
+use crate::Carried;
 use crate::Ran;
+use crate::Registers;
 use crate::State;
-use crate::Stepped;
 use event::Decoded;
 use part::Description;
 ghost use mathlib.Core.Bool.{true};
@@ -12,7 +13,7 @@ ghost use lib.ListN.{length};
 ghost use Rattle.part.specs.Descriptions.{valid};
 ghost use Rattle.device.specs.CarryingOut.{leaves};
 ghost use Rattle.device.specs.Lists.{decodedOn, endsRun, traceOf, ranTo, told, goodList};
-ghost use Rattle.device.specs.Slots.{eventAt, stored};
+ghost use Rattle.device.specs.Internals.{stateOf, eventAt, stored};
 
 // The most events of a list.
 const MOST_EVENTS: usize = 4096;
@@ -41,22 +42,30 @@ fn ends_run(number: u32) -> bool
 
 // What three numbers of a list do to a good device: a malformed event is passed over.
 fn decoded(
-    state: State,
     description: Description,
+    registers: Registers,
+    latches: &mut [u32; 64],
     general: &mut [u32],
     auxiliary: &mut [u32],
     decoded: Decoded,
-) -> Stepped
+) -> Carried
     requires { ⌜ valid description ≡ true ⌝ }
-    ensures { λ r. ⌜ leaves (r .answer) (r .state) (now (general .exit)) (now (auxiliary .exit))
-        ≡ decodedOn description state (now (general .entry)) (now (auxiliary .entry)) decoded ⌝ }
+    ensures { λ r. ⌜ leaves (r .answer) (stateOf (r .registers) (now (latches .exit))) (now (general .exit)) (now (auxiliary .exit))
+        ≡ decodedOn description (stateOf registers (now (latches .entry))) (now (general .entry)) (now (auxiliary .entry)) decoded ⌝ }
 {
     match decoded {
-        Decoded::Malformed => Stepped {
+        Decoded::Malformed => Carried {
             answer: Answer::MalformedEvent,
-            state,
+            registers,
         },
-        Decoded::WellFormed(event) => state.event(description, general, auxiliary, event),
+        Decoded::WellFormed(event) => crate::happens(
+            description,
+            registers,
+            latches,
+            general,
+            auxiliary,
+            event,
+        ),
     }
 }
 
@@ -79,24 +88,25 @@ fn store(slots: &mut [u32], index: usize, answer: Answer)
 
 // One event of the list: its number and value go into its two slots.
 fn listed(
-    state: State,
     description: Description,
+    registers: Registers,
+    latches: &mut [u32; 64],
     general: &mut [u32],
     auxiliary: &mut [u32],
     list: &[u32],
     slots: &mut [u32],
     index: usize,
-) -> Stepped
+) -> Carried
     requires { ⌜ (valid description ≡ true) × (3 * index + 2 < length (now list)) × (2 * index + 1 < length (now slots)) ⌝ }
-    ensures { λ r. ⌜ leaves (r .answer) (r .state) (now (general .exit)) (now (auxiliary .exit))
-        ≡ decodedOn description state (now (general .entry)) (now (auxiliary .entry)) (eventAt (now (list .entry)) index) ⌝
+    ensures { λ r. ⌜ leaves (r .answer) (stateOf (r .registers) (now (latches .exit))) (now (general .exit)) (now (auxiliary .exit))
+        ≡ decodedOn description (stateOf registers (now (latches .entry))) (now (general .entry)) (now (auxiliary .entry)) (eventAt (now (list .entry)) index) ⌝
         ∗ ⌜ now (slots .exit) ≡ stored (now (slots .entry)) index (r .answer) ⌝ }
 {
     let event = event_at(list, index);
-    let stepped = decoded(state, description, general, auxiliary, event);
-    let answer = stepped.answer;
+    let carried = decoded(description, registers, latches, general, auxiliary, event);
+    let answer = carried.answer;
     store(slots, index, answer);
-    stepped
+    carried
 }
 
 fn ended(count: usize, state: State) -> Ran
@@ -124,17 +134,27 @@ pub(crate) fn run_events(
         ≡ told (now (slots .entry)) (traceOf description limit state (now (general .entry)) (now (auxiliary .entry)) (now (list .entry))) ⌝ }
 {
     let total = least(limit, list.len() / 3);
-    let mut state = state;
+    let mut registers = crate::registers_of(state);
+    let mut latches = state.latches;
     let mut index: usize = 0;
     while index < total {
-        let stepped = listed(state, description, general, auxiliary, list, slots, index);
-        let after = stepped.state;
-        let answer = stepped.answer;
-        state = after;
+        let carried = listed(
+            description,
+            registers,
+            &mut latches,
+            general,
+            auxiliary,
+            list,
+            slots,
+            index,
+        );
+        let after = carried.registers;
+        let answer = carried.answer;
+        registers = after;
         index += 1;
         if ends_run(answer.number()) {
-            return ended(index, state);
+            return ended(index, crate::joined(registers, latches));
         }
     }
-    ended(index, state)
+    ended(index, crate::joined(registers, latches))
 }

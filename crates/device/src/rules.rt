@@ -150,8 +150,7 @@ fn table_write(address: ProgramAddress, word: u32) -> Decision
     ensures { λ r. ⌜ r ≡ tableWrite address word ⌝ }
 {
     let location = address.location();
-    let latch = (location.0 % 64) as usize;
-    Decision::LoadLatch(latch, word)
+    Decision::LoadLatch(location.0 % 64, word)
 }
 
 // Rule 8: the whole of page 0 counts as vectors.
@@ -161,12 +160,11 @@ fn may_change(
     fas: u8,
     origin: Origin,
     array: FlashArray,
-    index: usize,
+    index: u32,
 ) -> bool
     ensures { λ r. ⌜ r ≡ mayChange description fgs fas origin array index ⌝ }
 {
-    let vectors = description.page as usize;
-    let segment = part::segment_of(vectors, array, index);
+    let segment = part::segment_of(description.page, array, index);
     let target = part::target_of(description.keys, fgs, fas, segment);
     permission::allowed(Operation::Program, origin, target)
 }

@@ -15,8 +15,8 @@ pub(crate) fn page_in<'a>(
     match place {
         Place::Unimplemented => &general[..0],
         Place::InArray(array, index) => match array {
-            FlashArray::GeneralArray => flash::page(general, page, index),
-            FlashArray::AuxiliaryArray => flash::page(auxiliary, page, index),
+            FlashArray::GeneralArray => flash::page(general, page, index as usize),
+            FlashArray::AuxiliaryArray => flash::page(auxiliary, page, index as usize),
         },
     }
 }

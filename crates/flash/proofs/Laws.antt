@@ -2,15 +2,15 @@
 use Prim.Native.Nat.{ℕ, zero, suc, _+_, _-_, _*_, _%_, _<_, _≤_}
 use mathlib.Core.Path.{_≡_, refl, sym, ap, ap₂, _∙_}
 use mathlib.Core.Bool.{Bool, true, false}
-use mathlib.Core.List.{List, [], _∷_, _++_, zipWith, append-nil}
+use mathlib.Core.List.{List, [], _∷_, _++_, zipWith, append-nil, append-assoc}
 use native.Mathlib.Nat.{not-suc-le-zero, le-of-suc-le-suc, le-of-eq, add-assoc, zero-add, add-zero}
 use native.Mathlib.Numerals.{add-one}
 use native.Mathlib.Omega.{arith}
 use borrow.Author.Tests.{leb-true, leb-false, le-leb, lt-leb}
 use borrow.Rule.Slice.PartMut.{putMid}
 use lib.Dec.{leb}
-use lib.ListN.{length, take, drop, getD, set, replicate, length-take, length-drop, length-replicate, drop-of-length-le}
-use lib.Seq.{take-all, drop-drop, drop-length}
+use lib.ListN.{length, take, drop, getD, set, replicate, length-take, length-drop, length-replicate, replicate-append-replicate, drop-of-length-le}
+use lib.Seq.{take-all, take-at, drop-at, drop-drop, drop-length}
 use Rattle.measure.specs.Words.{programmedWord, bitsNotSet}
 use Rattle.measure.proofs.Laws.{not-set-le}
 use Rattle.flash.specs.Parts.{blank, fits, part, withPart}
@@ -148,3 +148,21 @@ whole-range flash =
 pub whole-erased : (flash : List ℕ) {answer : RangeErased} {exit : List ℕ} → outcome answer exit ≡ eraseRange flash 0 (length flash)
     → exit ≡ replicate (length flash) blank
 whole-erased flash e = ap (λ (o : Outcome RangeErased). o .flash) (e ∙ whole-range flash)
+
+-- ---- a part filled from its front
+
+-- so many blank words, and then the words as lent
+abbrev pub filled : ℕ → List ℕ → List ℕ
+filled at words = replicate at blank ++ drop at words
+
+-- a row more
+pub filled-row : (at count : ℕ) (words : List ℕ) {last : List ℕ} → last ≡ replicate count blank
+    → putMid at (at + count - at) (filled at words) last ≡ filled (at + count) words
+filled-row at count words e =
+    let k : at + count - at ≡ count = omega arith in
+    rw (e, k, take-at (replicate at blank) (drop at words) at (length-replicate at blank), drop-at (replicate at blank) (drop at words) at (length-replicate at blank), drop-drop)
+    (sym (append-assoc (replicate at blank) (replicate count blank) (drop (at + count) words)) ∙ rw (replicate-append-replicate at count blank))
+
+-- all words
+pub filled-all : (at count : ℕ) (words : List ℕ) → at ≡ count → length words ≡ count → filled at words ≡ replicate count blank
+filled-all at count words e h = rw (e, drop-of-length-le words {i = count} (omega (arith, h)), append-nil)

@@ -18,7 +18,7 @@ pub read-word-unique : OneResult 1 read-word-kinds.ps read-word-kinds.r read-wor
 read-word-unique κs arguments r r′ e e′ p q = one-outcome p q
 
 -- the answer, and the whole array at exit
-pub program-row-unique : OneOutcome 1 program-row-kinds.ps program-row-kinds.r program-row-reads.Post (λ κs result exit. outcome result (now (exit .0)))
+pub program-row-unique : OneOutcome 2 program-row-kinds.ps program-row-kinds.r program-row-reads.Post (λ κs result exit. outcome result (now (exit .0)))
 program-row-unique κs arguments r r′ e e′ p q = one-outcome p q
 
 pub erase-range-unique : OneOutcome 1 erase-range-kinds.ps erase-range-kinds.r erase-range-reads.Post (λ κs result exit. outcome result (now (exit .0)))

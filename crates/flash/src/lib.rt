@@ -49,12 +49,16 @@ fn fits(length: usize, first: usize, count: usize) -> bool
     first <= length - count
 }
 
-// The first word of the row or page of this size that holds an index.
+// The first word of the row or page of this size that holds an index; by a page's two sizes the machine need not divide.
 fn start_of(size: usize, index: usize) -> usize
     requires { ⌜ 0 < size ⌝ }
     ensures { λ r. ⌜ r ≡ startOf size index ⌝ }
 {
-    index - index % size
+    match size {
+        512 => index - index % 512,
+        1024 => index - index % 1024,
+        _ => index - index % size,
+    }
 }
 
 // The word at an index.
@@ -79,9 +83,9 @@ fn program_word(row: &mut [u32], index: usize, latch: u32) -> u32
 }
 
 // All words of a row, from their latches: programmed in place; the value is the row's bits not set.
-fn program_words(row: &mut [u32], latches: [u32; 64]) -> u32
-    requires { ⌜ length (now row) ≡ 64 ⌝ }
-    ensures { λ r. ⌜ ProgramWordsPromise (now (row .entry)) latches r (now (row .exit)) ⌝ }
+fn program_words(row: &mut [u32], latches: &[u32]) -> u32
+    requires { ⌜ (length (now row) ≡ 64) × (length (now latches) ≡ 64) ⌝ }
+    ensures { λ r. ⌜ ProgramWordsPromise (now (row .entry)) (now (latches .entry)) r (now (row .exit)) ⌝ }
 {
     let mut not_set: u32 = 0;
     let mut index: usize = 0;
@@ -94,8 +98,8 @@ fn program_words(row: &mut [u32], latches: [u32; 64]) -> u32
 }
 
 // The aligned row that holds an index, programmed from the latches.
-pub fn program_row(flash: &mut [u32], index: usize, latches: [u32; 64]) -> RowProgrammed
-    ensures { λ r. ⌜ ProgramRowPromise (now (flash .entry)) index latches r (now (flash .exit)) ⌝ }
+pub fn program_row(flash: &mut [u32], index: usize, latches: &[u32; 64]) -> RowProgrammed
+    ensures { λ r. ⌜ ProgramRowPromise (now (flash .entry)) index (now (latches .entry)) r (now (flash .exit)) ⌝ }
 {
     let first = start_of(ROW, index);
     if fits(flash.len(), first, ROW) {
@@ -106,11 +110,28 @@ pub fn program_row(flash: &mut [u32], index: usize, latches: [u32; 64]) -> RowPr
     }
 }
 
-// Every word of a part becomes blank.
+// The words of a row become blank: a length that the compiler knows makes wide stores of them.
+fn blank_row(row: &mut [u32])
+    requires { ⌜ length (now row) ≡ 64 ⌝ }
+    ensures { λ _. ⌜ now (row .exit) ≡ replicate 64 blank ⌝ }
+{
+    let mut at: usize = 0;
+    while at < ROW {
+        row[at] = BLANK;
+        at += 1;
+    }
+}
+
+// Every word of a part becomes blank: row by row, and then the words that are left.
 fn fill_blank(words: &mut [u32])
     ensures { λ _. ⌜ now (words .exit) ≡ replicate (length (now (words .entry))) blank ⌝ }
 {
     let mut at: usize = 0;
+    while ROW <= words.len() - at {
+        let end = at + ROW;
+        blank_row(&mut words[at..end]);
+        at = end;
+    }
     while at < words.len() {
         words[at] = BLANK;
         at += 1;

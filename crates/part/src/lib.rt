@@ -45,7 +45,7 @@ pub enum FlashArray {
 // Where an instruction location lies: its array, and its index there.
 pub enum Place {
     Unimplemented,
-    InArray(FlashArray, usize),
+    InArray(FlashArray, u32),
 }
 
 // Whose code runs.
@@ -116,7 +116,7 @@ pub fn is_sized(description: Description, general: usize, auxiliary: usize) -> b
 const AUXILIARY_END: usize = 0x400000;
 
 // The words of the vector space.
-pub const VECTOR_WORDS: usize = 256;
+pub const VECTOR_WORDS: u32 = 256;
 
 fn auxiliary_first(description: Description) -> usize
     ensures { λ r. ⌜ r ≡ auxiliaryFirst description ⌝ }
@@ -137,11 +137,11 @@ fn place_of(description: Description, location: InstructionLocation) -> Place
     let first = auxiliary_first(description);
     let in_general = index < general;
     if in_general {
-        return Place::InArray(FlashArray::GeneralArray, index);
+        return Place::InArray(FlashArray::GeneralArray, location.0);
     }
     let in_auxiliary = (first <= index) & (index < AUXILIARY_END);
     if in_auxiliary {
-        return Place::InArray(FlashArray::AuxiliaryArray, index - first);
+        return Place::InArray(FlashArray::AuxiliaryArray, (index - first) as u32);
     }
     Place::Unimplemented
 }
@@ -218,7 +218,7 @@ pub fn from_general(origin: Origin) -> bool
 }
 
 // The segment of a word, where the first words of the General Segment's array count as vectors.
-pub fn segment_of(vectors: usize, array: FlashArray, index: usize) -> Segment
+pub fn segment_of(vectors: u32, array: FlashArray, index: u32) -> Segment
     ensures { λ r. ⌜ SegmentOfPromise vectors array index r ⌝ }
 {
     match array {

@@ -39,8 +39,8 @@ same-length c = search needs
 returns : tie.Need-returns
 unfolding programRowAt
 returns c =
-    rw (← c .before .before .before .before .before .before .start-of .ensures, ← c .before .before .before .before .before .fits2 .ensures, c .before .before .before .before .if1 .taken)
-    (programmed-part _ _ _ (fitted _ _ _ (c .before .before .before .before .before .fits2 .ensures) (c .before .before .before .before .if1 .taken)) (search needs) (c .before .before .program-words .ensures))
+    rw (← c .before .before .before .before .before .before .before .start-of .ensures, ← c .before .before .before .before .before .before .fits2 .ensures, c .before .before .before .before .before .if1 .taken)
+    (programmed-part _ _ _ (fitted _ _ _ (c .before .before .before .before .before .before .fits2 .ensures) (c .before .before .before .before .before .if1 .taken)) (search needs) (c .before .before .program-words .ensures))
 
 returns-2 : tie.Need-returns-2
 unfolding programRowAt

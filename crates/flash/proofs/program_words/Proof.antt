@@ -22,21 +22,21 @@ abbrev μ-loop : tie.MeasureT-loop
 
 loop-holds : tie.Need-loop-holds Inv-loop μ-loop
 unfolding zipWith total
-loop-holds c = (omega arith, c .before .pre, refl, refl, omega arith)
+loop-holds c = (omega arith, c .before .before .pre .0, refl, refl, omega arith)
 
 mul-latch : tie.Need-mul-latch Inv-loop μ-loop
 mul-latch c = search needs
 
-array-read-latch : tie.Need-array-read-latch Inv-loop μ-loop
-array-read-latch c = search needs
+shared-slice-read-latch : tie.Need-shared-slice-read-latch Inv-loop μ-loop
+shared-slice-read-latch c = search needs
 
 program-word-requires : tie.Need-program-word-requires Inv-loop μ-loop
 program-word-requires c κs = search needs
 
 add-not-set : tie.Need-add-not-set Inv-loop μ-loop
 add-not-set c =
-    let loop = c .before .before .before .before .before .loop in
-    omega (arith, c .before .before .program-word .ensures .not-set, not-set-le 24 (getD (loop .row) (loop .index) 0) (getD (c .before .before .before .before .before .before .before .args .t2) (loop .index) 0))
+    let loop = c .before .before .before .before .before .before .loop in
+    omega (arith, c .before .before .program-word .ensures .not-set, not-set-le 24 (getD (loop .row) (loop .index) 0) (getD (c .before .before .before .before .before .before .before .before .before .args .latches .now) (loop .index) 0))
 
 add-index : tie.Need-add-index Inv-loop μ-loop
 add-index c = search needs
@@ -46,15 +46,14 @@ loop-less c = search needs
 
 loop-again : tie.Need-loop-again Inv-loop μ-loop
 loop-again c =
-    let loop = c .before .before .before .before .before .loop in
-    let old = c .before .before .before .before .before .before .before .args .row .now in
-    let latches = c .before .before .before .before .before .before .before .args .t2 in
-    let word = c .before .before .program-word .ensures in
-    let l : length latches ≡ 64 = search needs in (
+    let loop = c .before .before .before .before .before .before .loop in
+    let old = c .before .before .before .before .before .before .before .before .before .args .row .now in
+    let latches = c .before .before .before .before .before .before .before .before .before .args .latches .now in
+    let word = c .before .before .program-word .ensures in (
       omega arith,
       search needs,
-      row-more old latches _ (loop .index) (omega arith) (c .before .before .before .before .before .before .before .pre) l (loop .inv .2) (word .words),
-      count-more old latches _ (loop .index) (omega arith) (c .before .before .before .before .before .before .before .pre) l (loop .inv .2) (loop .inv .3) (word .not-set),
+      row-more old latches _ (loop .index) (omega arith) (c .before .before .before .before .before .before .before .before .before .pre .0) (c .before .before .before .before .before .before .before .before .before .pre .1) (loop .inv .2) (word .words),
+      count-more old latches _ (loop .index) (omega arith) (c .before .before .before .before .before .before .before .before .before .pre .0) (c .before .before .before .before .before .before .before .before .before .pre .1) (loop .inv .2) (loop .inv .3) (word .not-set),
       omega (arith, word .not-set, not-set-le 24 (getD (loop .row) (loop .index) 0) (getD latches (loop .index) 0)),
     )
 
@@ -64,11 +63,10 @@ same-length c = search needs
 returns : tie.Need-returns Inv-loop μ-loop
 returns c =
     let loop = c .before .loop in
-    let l : length (c .before .before .before .args .t2) ≡ 64 = search needs in
     let e : loop .index ≡ 64 = omega arith in
     record {
-      not-set = loop .inv .3 ∙ rw e (count-done _ _ (c .before .before .before .pre) l);
-      words = loop .inv .2 ∙ rw e (row-done _ _ (c .before .before .before .pre) l);
+      not-set = loop .inv .3 ∙ rw e (count-done _ _ (c .before .before .before .before .pre .0) (c .before .before .before .before .pre .1));
+      words = loop .inv .2 ∙ rw e (row-done _ _ (c .before .before .before .before .pre .0) (c .before .before .before .before .pre .1));
     }
 
 pub program-words-spec : {M : Type 1} → statement M
@@ -79,7 +77,7 @@ program-words-spec =
     μ-loop
     loop-holds
     mul-latch
-    array-read-latch
+    shared-slice-read-latch
     program-word-requires
     add-not-set
     add-index

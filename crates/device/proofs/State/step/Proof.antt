@@ -36,8 +36,14 @@ returns-3 : tie.Need-returns-3
 unfolding step
 returns-3 c = rw (← c .before .before .before .before .before .before .is-valid .ensures, c .before .before .before .before .before .if1 .left, ← c .before .before .before .before .is-sized .ensures, c .before .before .before .if2 .left, ← c .before .before .is-well-formed .ensures, c .before .if3 .taken, c .refused3 .ensures)
 
-event-requires : tie.Need-event-requires
-event-requires c κs = sym (c .before .before .before .before .before .before .before .is-valid .ensures) ∙ not-false _ (c .before .before .before .before .before .before .if1 .left)
+registers-of-requires : tie.Need-registers-of-requires
+registers-of-requires c κs = search needs
+
+happens-requires : tie.Need-happens-requires
+happens-requires c κs = sym (c .before .before .before .before .before .before .before .before .before .before .is-valid .ensures) ∙ not-false _ (c .before .before .before .before .before .before .before .before .before .if1 .left)
+
+joined-requires : tie.Need-joined-requires
+joined-requires c κs = search needs
 
 same-length : tie.Need-same-length
 same-length c = search needs
@@ -47,7 +53,9 @@ same-length-2 c = search needs
 
 returns-4 : tie.Need-returns-4
 unfolding step
-returns-4 c = rw (← c .before .before .before .before .before .before .before .before .before .before .before .before .is-valid .ensures, c .before .before .before .before .before .before .before .before .before .before .before .if1 .left, ← c .before .before .before .before .before .before .before .before .before .before .is-sized .ensures, c .before .before .before .before .before .before .before .before .before .if2 .left, ← c .before .before .before .before .before .before .before .before .is-well-formed .ensures, c .before .before .before .before .before .before .before .if3 .left) (c .before .before .before .before .event .ensures)
+returns-4 c =
+    rw (← c .before .before .before .before .before .before .before .before .before .before .before .before .before .before .before .before .before .is-valid .ensures, c .before .before .before .before .before .before .before .before .before .before .before .before .before .before .before .before .if1 .left, ← c .before .before .before .before .before .before .before .before .before .before .before .before .before .before .before .is-sized .ensures, c .before .before .before .before .before .before .before .before .before .before .before .before .before .before .if2 .left, ← c .before .before .before .before .before .before .before .before .before .before .before .before .before .is-well-formed .ensures, c .before .before .before .before .before .before .before .before .before .before .before .before .if3 .left, c .joined .ensures)
+    (rw (c .before .before .before .before .before .before .before .before .before .before .registers-of .ensures) at (c .before .before .before .before .before .before .happens .ensures))
 
 pub step-spec : {M : Type 1} → statement M
 step-spec =
@@ -62,7 +70,9 @@ step-spec =
     is-well-formed-requires
     refused-requires-3
     returns-3
-    event-requires
+    registers-of-requires
+    happens-requires
+    joined-requires
     same-length
     same-length-2
     returns-4)

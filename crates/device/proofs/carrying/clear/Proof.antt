@@ -1,8 +1,6 @@
 -- `device::carrying::clear` meets its contract. Assumes nothing.
-use mathlib.Core.Path.{ap, _∙_}
-use Rattle.flash.specs.Operations.{Outcome}
-use Rattle.flash.proofs.Laws.{whole-erased}
 use Rattle.device.specs.CarryingOut.{clears}
+use Rattle.flash.proofs.Laws.{whole-erased}
 use borrow.Author.Needs.{needs}
 use Rattle.device.proofs.carrying.clear.Statement.{statement}
 use Rattle.device.proofs.carrying.clear.Tie as tie
@@ -13,37 +11,25 @@ enum-told c = search needs
 erase-range-requires : tie.Need-erase-range-requires
 erase-range-requires c κs = search needs
 
-with-fuse-requires : tie.Need-with-fuse-requires
-with-fuse-requires c κs = search needs
-
-answered-requires : tie.Need-answered-requires
-answered-requires c κs = search needs
-
 enum-told-2 : tie.Need-enum-told-2
 enum-told-2 c = search needs
 
 erase-range-requires-2 : tie.Need-erase-range-requires-2
 erase-range-requires-2 c κs = search needs
 
-with-fuse-requires-2 : tie.Need-with-fuse-requires-2
-with-fuse-requires-2 c κs = search needs
-
-answered-requires-2 : tie.Need-answered-requires-2
-answered-requires-2 c κs = search needs
-
 same-length : tie.Need-same-length
 same-length c = search needs
 
 returns : tie.Need-returns
 unfolding clears
-returns c = rw (c .before .before .before .before .before .before .enum-told .given .1, c .answered .ensures, c .before .with-fuse .ensures, c .before .before .before .before .before .before .enum-told .given .1, whole-erased _ (c .before .before .before .before .erase-range .ensures))
+returns c = λ state. rw (c .before .before .before .before .enum-told .given .1, whole-erased _ (c .before .before .erase-range .ensures))
 
 same-length-2 : tie.Need-same-length-2
 same-length-2 c = search needs
 
 returns-2 : tie.Need-returns-2
 unfolding clears
-returns-2 c = rw (c .before .before .before .before .before .before .enum-told2 .given .1, c .answered2 .ensures, c .before .with-fuse2 .ensures, c .before .before .before .before .before .before .enum-told2 .given .1, whole-erased _ (c .before .before .before .before .erase-range2 .ensures))
+returns-2 c = λ state. rw (c .before .before .before .before .enum-told2 .given .1, whole-erased _ (c .before .before .erase-range2 .ensures))
 
 pub clear-spec : {M : Type 1} → statement M
 clear-spec =
@@ -51,12 +37,8 @@ clear-spec =
     (tie.spec
     enum-told
     erase-range-requires
-    with-fuse-requires
-    answered-requires
     enum-told-2
     erase-range-requires-2
-    with-fuse-requires-2
-    answered-requires-2
     same-length
     returns
     same-length-2

@@ -2,8 +2,7 @@
 use mathlib.Core.Path.{ap}
 use Rattle.flash.specs.Operations.{Outcome}
 use Rattle.flash.specs.declared.RangeErased.{RangeErased}
-use Rattle.device.specs.CarryingOut.{leaves, eraseAnswer}
-use Rattle.device.specs.CarryingOut.{erases}
+use Rattle.device.specs.CarryingOut.{leaves, eraseAnswer, erases}
 use borrow.Author.Needs.{needs}
 use Rattle.device.proofs.carrying.erase.Statement.{statement}
 use Rattle.device.proofs.carrying.erase.Tie as tie
@@ -17,9 +16,6 @@ erase-page-requires c κs = search needs
 erase-answer-requires : tie.Need-erase-answer-requires
 erase-answer-requires c κs = search needs
 
-answered-requires : tie.Need-answered-requires
-answered-requires c κs = search needs
-
 enum-told-2 : tie.Need-enum-told-2
 enum-told-2 c = search needs
 
@@ -29,18 +25,14 @@ erase-page-requires-2 c κs = search needs
 erase-answer-requires-2 : tie.Need-erase-answer-requires-2
 erase-answer-requires-2 c κs = search needs
 
-answered-requires-2 : tie.Need-answered-requires-2
-answered-requires-2 c κs = search needs
-
 same-length : tie.Need-same-length
 same-length c = search needs
 
 returns : tie.Need-returns
 unfolding erases
 returns c =
-    let a = c .before .before .before .before .before .before .before .before .before .before .args in
-    rw (c .before .before .before .before .before .before .enum-told .given .1, c .answered .ensures, c .before .erase-answer .ensures)
-    (ap (λ (erased : Outcome RangeErased). leaves (eraseAnswer (erased .answer)) (a .state) (erased .flash) (a .auxiliary .now)) (c .before .before .before .before .erase-page .ensures))
+    λ state. rw (c .before .before .before .before .before .enum-told .given .1, c .erase-answer .ensures)
+    (ap (λ (erased : Outcome RangeErased). leaves (eraseAnswer (erased .answer)) state (erased .flash) (c .before .before .before .before .before .before .before .before .before .args .auxiliary .now)) (c .before .before .before .erase-page .ensures))
 
 same-length-2 : tie.Need-same-length-2
 same-length-2 c = search needs
@@ -48,9 +40,8 @@ same-length-2 c = search needs
 returns-2 : tie.Need-returns-2
 unfolding erases
 returns-2 c =
-    let a = c .before .before .before .before .before .before .before .before .before .before .args in
-    rw (c .before .before .before .before .before .before .enum-told2 .given .1, c .answered2 .ensures, c .before .erase-answer2 .ensures)
-    (ap (λ (erased : Outcome RangeErased). leaves (eraseAnswer (erased .answer)) (a .state) (a .general .now) (erased .flash)) (c .before .before .before .before .erase-page2 .ensures))
+    λ state. rw (c .before .before .before .before .before .enum-told2 .given .1, c .erase-answer2 .ensures)
+    (ap (λ (erased : Outcome RangeErased). leaves (eraseAnswer (erased .answer)) state (c .before .before .before .before .before .before .before .before .before .args .general .now) (erased .flash)) (c .before .before .before .erase-page2 .ensures))
 
 pub erase-spec : {M : Type 1} → statement M
 erase-spec =
@@ -59,11 +50,9 @@ erase-spec =
     enum-told
     erase-page-requires
     erase-answer-requires
-    answered-requires
     enum-told-2
     erase-page-requires-2
     erase-answer-requires-2
-    answered-requires-2
     same-length
     returns
     same-length-2

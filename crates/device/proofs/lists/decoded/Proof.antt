@@ -10,8 +10,8 @@ enum-told c = search needs
 enum-known-decoded : tie.Need-enum-known-decoded
 enum-known-decoded c = search needs
 
-event-requires : tie.Need-event-requires
-event-requires c κs = search needs
+happens-requires : tie.Need-happens-requires
+happens-requires c κs = search needs
 
 returns : tie.Need-returns
 unfolding decodedOn
@@ -25,7 +25,7 @@ same-length-2 c = search needs
 
 returns-2 : tie.Need-returns-2
 unfolding decodedOn
-returns-2 c = rw (c .before .before .before .before .before .before .before .before .decoded .given .1) (c .before .before .before .before .event .ensures)
+returns-2 c = rw (c .before .before .before .before .before .before .before .before .before .decoded .given .1) (c .before .before .before .before .happens .ensures)
 
 pub decoded-spec : {M : Type 1} → statement M
 decoded-spec =
@@ -33,7 +33,7 @@ decoded-spec =
     (tie.spec
     enum-told
     enum-known-decoded
-    event-requires
+    happens-requires
     returns
     same-length
     same-length-2

@@ -22,7 +22,7 @@ same-length-3 : tie.Need-same-length-3
 same-length-3 c = search needs
 
 returns : tie.Need-returns
-returns c = (rw (← c .before .before .before .before .before .before .before .before .before .before .before .event-at .ensures) (c .before .before .before .before .before .before .before .before .decoded .ensures), c .before .before .store .ensures)
+returns c = (rw (← c .before .before .before .before .before .before .before .before .before .before .before .before .event-at .ensures) (c .before .before .before .before .before .before .before .before .decoded .ensures), c .before .before .store .ensures)
 
 pub listed-spec : {M : Type 1} → statement M
 listed-spec =

@@ -3,9 +3,6 @@ use borrow.Author.Needs.{needs}
 use Rattle.device.proofs.rules.may_change.Statement.{statement}
 use Rattle.device.proofs.rules.may_change.Tie as tie
 
-cast-vectors : tie.Need-cast-vectors
-cast-vectors c = search needs
-
 segment-of-requires : tie.Need-segment-of-requires
 segment-of-requires c κs = search needs
 
@@ -21,4 +18,4 @@ returns c = rw (c .before .target-of .ensures, c .before .before .segment-of .en
 pub may-change-spec : {M : Type 1} → statement M
 may-change-spec =
     tie.close
-    (tie.spec cast-vectors segment-of-requires target-of-requires allowed-requires returns)
+    (tie.spec segment-of-requires target-of-requires allowed-requires returns)

@@ -6,11 +6,8 @@ use Rattle.device.proofs.rules.table_write.Tie as tie
 location-requires : tie.Need-location-requires
 location-requires c κs = search needs
 
-cast-latch : tie.Need-cast-latch
-cast-latch c = search needs
-
 returns : tie.Need-returns
-returns c = cc
+returns c = rw (c .before .location .ensures)
 
 pub table-write-spec : {M : Type 1} → statement M
-table-write-spec = tie.close (tie.spec location-requires cast-latch returns)
+table-write-spec = tie.close (tie.spec location-requires returns)

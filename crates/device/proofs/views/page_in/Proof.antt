@@ -16,11 +16,17 @@ enum-known-place c = search needs
 enum-told-2 : tie.Need-enum-told-2
 enum-told-2 c = search needs
 
+cast-page : tie.Need-cast-page
+cast-page c = search needs
+
 page-requires : tie.Need-page-requires
 page-requires c κs = search needs
 
 enum-told-3 : tie.Need-enum-told-3
 enum-told-3 c = search needs
+
+cast-page-2 : tie.Need-cast-page-2
+cast-page-2 c = search needs
 
 page-requires-2 : tie.Need-page-requires-2
 page-requires-2 c κs = search needs
@@ -45,8 +51,10 @@ page-in-spec =
     slice-aggregate-result
     enum-known-place
     enum-told-2
+    cast-page
     page-requires
     enum-told-3
+    cast-page-2
     page-requires-2
     returns
     returns-2

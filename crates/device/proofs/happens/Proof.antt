@@ -1,8 +1,8 @@
--- `device::State::event` meets its contract: decided, then carried out. Assumes nothing.
+-- `device::happens` meets its contract: decided, then carried out. Assumes nothing.
 use Rattle.device.specs.OneEvent.{eventOn}
 use borrow.Author.Needs.{needs}
-use Rattle.device.proofs.State.event.Statement.{statement}
-use Rattle.device.proofs.State.event.Tie as tie
+use Rattle.device.proofs.happens.Statement.{statement}
+use Rattle.device.proofs.happens.Tie as tie
 
 vector-word-requires : tie.Need-vector-word-requires
 vector-word-requires c κs = search needs
@@ -24,10 +24,10 @@ same-length-2 c = search needs
 
 returns : tie.Need-returns
 unfolding eventOn
-returns c = rw (← c .before .before .before .before .before .before .before .before .before .before .vector-word .ensures, ← c .before .before .before .before .before .before .before .before .decide .ensures) (c .before .before .before .before .carry-out .ensures)
+returns c = rw (← c .before .before .before .before .before .before .before .before .before .before .before .vector-word .ensures, ← c .before .before .before .before .before .before .before .before .before .decide .ensures) (c .before .before .before .before .carry-out .ensures)
 
-pub event-spec : {M : Type 1} → statement M
-event-spec =
+pub happens-spec : {M : Type 1} → statement M
+happens-spec =
     tie.close
     (tie.spec
     vector-word-requires

@@ -1,11 +1,22 @@
--- The three numbers and the two slots of the event of one index. Assumes nothing.
+-- What only the contracts of private functions speak of: a state in two parts, and an event's numbers by its index.
+-- Assumes nothing.
 use Prim.Native.Nat.{ℕ, _+_, _*_}
 use mathlib.Core.List.{List}
 use lib.ListN.{getD, set}
 use Rattle.device.specs.Answers.{numberOf, valueOf}
 use Rattle.event.specs.Events.{decode}
+use Rattle.device.specs.declared.State.{State}
+use Rattle.device.specs.declared.Registers.{Registers}
 use Rattle.device.specs.declared.Answer.{Answer}
 use Rattle.event.specs.declared.Decoded.{Decoded}
+
+-- a state but for its latches, and the state again
+abbrev pub registersOf : State → Registers
+registersOf s = record { pc = s .pc; iopuwr = s .iopuwr; stopped = s .stopped; fgs = s .fgs; fas = s .fas }
+
+abbrev pub stateOf : Registers → List ℕ → State
+stateOf r latches =
+    record { pc = r .pc; iopuwr = r .iopuwr; stopped = r .stopped; fgs = r .fgs; fas = r .fas; latches = latches }
 
 -- what the three numbers of the event of this index say
 abbrev pub eventAt : List ℕ → ℕ → Decoded
