@@ -9,7 +9,7 @@ use Rattle.measure.specs.Choice.{if_then_else_}
 use Rattle.measure.specs.Measures.{address}
 use Rattle.measure.specs.Tests.{byTest, and-left}
 use Rattle.part.specs.Descriptions.{valid, sized}
-use Rattle.event.specs.Events.{goodAddress, goodWord, goodByte, goodVector, wellFormed, given, decode}
+use Rattle.event.specs.Events.{goodAddress, goodWord, goodByte, goodVectorNumber, wellFormed, given, decode}
 use Rattle.device.specs.OneEvent.{eventOn, step}
 use Rattle.device.specs.Lists.{decodedOn}
 use Rattle.part.specs.declared.Description.{Description}
@@ -46,7 +46,7 @@ unfolding decode wellFormed
 decode-sound kind a b =
     byTest Sound (eqb kind 1) (λ _. given-sound (eqb a 0 && eqb b 0) Next (λ _. refl))
     (λ _. byTest Sound (eqb kind 2) (λ _. given-sound _ (FlowChange (address a)) (and-left (goodAddress a) (eqb b 0)))
-    (λ _. byTest Sound (eqb kind 3) (λ _. given-sound _ (Interrupt a) (and-left (goodVector a) (eqb b 0)))
+    (λ _. byTest Sound (eqb kind 3) (λ _. given-sound _ (Interrupt a) (and-left (goodVectorNumber a) (eqb b 0)))
     (λ _. byTest Sound (eqb kind 4) (λ _. given-sound _ (TableRead (address a)) (and-left (goodAddress a) (eqb b 0)))
     (λ _. byTest Sound (eqb kind 5) (λ _. given-sound _ (TableWrite (address a) b) (λ e. e))
     (λ _. byTest Sound (eqb kind 6) (λ _. given-sound _ (ProgramRow (address a)) (and-left (goodAddress a) (eqb b 0)))

@@ -154,19 +154,19 @@ fn carried(answer: Answer, registers: Registers) -> Carried
     Carried { answer, registers }
 }
 
-fn read(array: FlashArray, index: u32, general: &[u32], auxiliary: &[u32]) -> Answer
+fn read(array: FlashArray, index: usize, general: &[u32], auxiliary: &[u32]) -> Answer
     ensures { λ r. ⌜ r ≡ readAnswer (readWord (arrayOf array (now (general .entry)) (now (auxiliary .entry))) index) ⌝ }
 {
     match array {
-        FlashArray::GeneralArray => read_answer(flash::read_word(general, index as usize)),
-        FlashArray::AuxiliaryArray => read_answer(flash::read_word(auxiliary, index as usize)),
+        FlashArray::GeneralArray => read_answer(flash::read_word(general, index)),
+        FlashArray::AuxiliaryArray => read_answer(flash::read_word(auxiliary, index)),
     }
 }
 
 // The row of an array that holds the index, from the latches, which are blank afterwards.
 fn program(
     array: FlashArray,
-    index: u32,
+    index: usize,
     latches: &mut [u32; 64],
     general: &mut [u32],
     auxiliary: &mut [u32],
@@ -176,12 +176,12 @@ fn program(
 {
     match array {
         FlashArray::GeneralArray => {
-            let programmed = flash::program_row(general, index as usize, latches);
+            let programmed = flash::program_row(general, index, latches);
             use_up(latches, programmed);
             row_answer(programmed)
         }
         FlashArray::AuxiliaryArray => {
-            let programmed = flash::program_row(auxiliary, index as usize, latches);
+            let programmed = flash::program_row(auxiliary, index, latches);
             use_up(latches, programmed);
             row_answer(programmed)
         }
@@ -192,7 +192,7 @@ fn program(
 fn erase(
     page: usize,
     array: FlashArray,
-    index: u32,
+    index: usize,
     general: &mut [u32],
     auxiliary: &mut [u32],
 ) -> Answer
@@ -200,12 +200,8 @@ fn erase(
         ≡ erasesOf page array index state (now (general .entry)) (now (auxiliary .entry))) ⌝ }
 {
     match array {
-        FlashArray::GeneralArray => erase_answer(flash::erase_page(general, page, index as usize)),
-        FlashArray::AuxiliaryArray => erase_answer(flash::erase_page(
-            auxiliary,
-            page,
-            index as usize,
-        )),
+        FlashArray::GeneralArray => erase_answer(flash::erase_page(general, page, index)),
+        FlashArray::AuxiliaryArray => erase_answer(flash::erase_page(auxiliary, page, index)),
     }
 }
 
@@ -255,15 +251,15 @@ pub(crate) fn carry_out(
             carried(Answer::Done(0), registers)
         }
         Decision::ReadAt(array, index) => carried(
-            read(array, index, general, auxiliary),
+            read(array, index as usize, general, auxiliary),
             registers,
         ),
         Decision::ProgramAt(array, index) => carried(
-            program(array, index, latches, general, auxiliary),
+            program(array, index as usize, latches, general, auxiliary),
             registers,
         ),
         Decision::EraseAt(array, index) => carried(
-            erase(page, array, index, general, auxiliary),
+            erase(page, array, index as usize, general, auxiliary),
             registers,
         ),
         Decision::EraseWhole(array) => {

@@ -36,14 +36,14 @@ abbrev pub goodByte : ℕ → Bool
 goodByte b = ltb b 256
 
 -- "vector 0 to 253"
-abbrev pub goodVector : ℕ → Bool
-goodVector v = leb v 253
+abbrev pub goodVectorNumber : ℕ → Bool
+goodVectorNumber v = leb v 253
 
 -- a byte that an event carries is below 256 by its type
 unfoldable pub wellFormed : Event → Bool
 wellFormed Next = true
 wellFormed (FlowChange target) = goodAddress (target .0)
-wellFormed (Interrupt vector) = goodVector vector
+wellFormed (Interrupt vector) = goodVectorNumber vector
 wellFormed (TableRead a) = goodAddress (a .0)
 wellFormed (TableWrite a word) = goodAddress (a .0) && goodWord word
 wellFormed (ProgramRow a) = goodAddress (a .0)
@@ -62,7 +62,7 @@ unfoldable pub decode : ℕ → ℕ → ℕ → Decoded
 decode kind a b =
     if eqb kind 1 then given (eqb a 0 && eqb b 0) Next
     else if eqb kind 2 then given (goodAddress a && eqb b 0) (FlowChange (address a))
-    else if eqb kind 3 then given (goodVector a && eqb b 0) (Interrupt a)
+    else if eqb kind 3 then given (goodVectorNumber a && eqb b 0) (Interrupt a)
     else if eqb kind 4 then given (goodAddress a && eqb b 0) (TableRead (address a))
     else if eqb kind 5 then given (goodAddress a && goodWord b) (TableWrite (address a) b)
     else if eqb kind 6 then given (goodAddress a && eqb b 0) (ProgramRow (address a))

@@ -1,7 +1,7 @@
 -- `device::carrying::carry_out` meets its contract: each decision in its own way. Assumes nothing.
-use Rattle.device.proofs.Laws.{fuse-beside}
 use Rattle.device.specs.CarryingOut.{carryOut}
 use Rattle.device.specs.Internals.{stateOf}
+use Rattle.device.proofs.Laws.{fuse-beside}
 use borrow.Author.Needs.{needs}
 use Rattle.device.proofs.carrying.carry_out.Statement.{statement}
 use Rattle.device.proofs.carrying.carry_out.Tie as tie
@@ -66,6 +66,9 @@ carried-requires-6 c κs = search needs
 enum-known-decision-4 : tie.Need-enum-known-decision-4
 enum-known-decision-4 c = search needs
 
+cast-read : tie.Need-cast-read
+cast-read c = search needs
+
 read-requires : tie.Need-read-requires
 read-requires c κs = search needs
 
@@ -75,6 +78,9 @@ carried-requires-7 c κs = search needs
 enum-known-decision-5 : tie.Need-enum-known-decision-5
 enum-known-decision-5 c = search needs
 
+cast-program : tie.Need-cast-program
+cast-program c = search needs
+
 program-requires : tie.Need-program-requires
 program-requires c κs = search needs
 
@@ -83,6 +89,9 @@ carried-requires-8 c κs = search needs
 
 enum-known-decision-6 : tie.Need-enum-known-decision-6
 enum-known-decision-6 c = search needs
+
+cast-erase : tie.Need-cast-erase
+cast-erase c = search needs
 
 erase-requires : tie.Need-erase-requires
 erase-requires c κs = search needs
@@ -206,12 +215,15 @@ carry-out-spec =
     load-requires
     carried-requires-6
     enum-known-decision-4
+    cast-read
     read-requires
     carried-requires-7
     enum-known-decision-5
+    cast-program
     program-requires
     carried-requires-8
     enum-known-decision-6
+    cast-erase
     erase-requires
     carried-requires-9
     enum-known-decision-7

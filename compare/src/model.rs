@@ -1,0 +1,100 @@
+//! The independent model, written from document 01 alone.
+
+mod answer;
+mod device;
+mod event;
+mod fuse;
+mod layout;
+#[cfg(test)]
+mod tests;
+
+use crate::library::{DescriptionNumbers, RunReport, StateNumbers, StepReport};
+use answer::{Answer, Refusal};
+use device::Device;
+use event::Event;
+use layout::Layout;
+
+/// The most events a list may hold.
+const LONGEST_LIST: usize = 4096;
+
+/// Answers at most `limit` events of a list, two slots for each.
+pub fn run(
+    description: &DescriptionNumbers,
+    state: &mut StateNumbers,
+    general: &mut [u32],
+    auxiliary: &mut [u32],
+    events: &[u32],
+    limit: usize,
+    slots: &mut [u32],
+) -> RunReport {
+    let layout = match admit_list(description, general, auxiliary, events, slots) {
+        Ok(layout) => layout,
+        Err(refusal) => return refused_run(refusal),
+    };
+    let mut device = Device::new(layout, state, general, auxiliary);
+    let count = device.run(events, limit, slots);
+    let registers = device.registers();
+    state[..registers.len()].copy_from_slice(&registers);
+    RunReport { answer: 0, count }
+}
+
+/// Answers one event: its kind and its numbers A and B.
+pub fn step(
+    description: &DescriptionNumbers,
+    state: &mut StateNumbers,
+    general: &mut [u32],
+    auxiliary: &mut [u32],
+    event: [u32; 3],
+) -> StepReport {
+    let layout = match Layout::new(description, general, auxiliary) {
+        Ok(layout) => layout,
+        Err(refusal) => return refused_step(refusal),
+    };
+    let event = match Event::from_numbers(event) {
+        Some(event) => event,
+        None => return reported(Answer::Malformed),
+    };
+    let mut device = Device::new(layout, state, general, auxiliary);
+    let answer = device.answer(event);
+    let registers = device.registers();
+    state[..registers.len()].copy_from_slice(&registers);
+    reported(answer)
+}
+
+/// The refusals of a run in the paper's order: 7, 8, 9.
+fn admit_list(
+    description: &DescriptionNumbers,
+    general: &[u32],
+    auxiliary: &[u32],
+    events: &[u32],
+    slots: &[u32],
+) -> Result<Layout, Refusal> {
+    let layout = Layout::new(description, general, auxiliary)?;
+    let count = events.len() / 3;
+    if events.len() % 3 == 0 && count <= LONGEST_LIST && slots.len() >= 2 * count {
+        Ok(layout)
+    } else {
+        Err(Refusal::BadList)
+    }
+}
+
+fn refused_run(refusal: Refusal) -> RunReport {
+    RunReport {
+        answer: refusal.number(),
+        count: 0,
+    }
+}
+
+fn refused_step(refusal: Refusal) -> StepReport {
+    StepReport {
+        answer: refusal.number(),
+        value: 0,
+    }
+}
+
+fn reported(answer: Answer) -> StepReport {
+    StepReport {
+        answer: answer.number(),
+        value: answer.value(),
+    }
+}
