@@ -2,7 +2,7 @@
 use mathlib.Core.Path.{_≡_, refl, sym, ap, _∙_}
 use mathlib.Core.Bool.{Bool, true, false, _&&_, _||_, false≢true}
 use mathlib.Core.List.{List, []}
-use Prim.Native.Nat.{ℕ, _+_, _*_, _-_, _%_, _<_, _≤_, _^_}
+use Prim.Native.Nat.{ℕ, _+_, _*_, _-_, _/_, _%_, _<_, _≤_, _^_}
 use native.Mathlib.Nat.{mul-le-mul, lt-of-le-of-lt, mod-eq-of-lt}
 use native.Mathlib.Omega.{arith}
 use borrow.Author.Tests.{ltb-true, ltb-false, leb-true, eqb-true}
@@ -20,8 +20,8 @@ use Rattle.flash.specs.declared.WordFound.the-variants.{Word, NoWord}
 use Rattle.permission.specs.declared.Origin.{Origin}
 use Rattle.measure.specs.Measures.{even}
 use Rattle.part.specs.Descriptions.{goodPage, goodGeneral, goodAuxiliary, goodVector, valid, generalWords, auxiliaryWords}
-use Rattle.device.specs.CarryingOut.{withFuse, wordOrZero}
-use Rattle.device.specs.Internals.{registersOf, stateOf}
+use Rattle.device.specs.CarryingOut.{withFuse}
+use Rattle.device.specs.Internals.{registersOf, stateOf, wordOrZero}
 use Rattle.device.specs.declared.Registers.{Registers}
 use Rattle.part.specs.declared.FlashArray.{FlashArray}
 use Rattle.part.specs.declared.FlashArray.the-variants.{GeneralArray, AuxiliaryArray}
@@ -131,3 +131,7 @@ pub fuse-beside : (r : Registers) (latches : List ℕ) (array : FlashArray) (byt
     → stateOf (registersOf (withFuse (stateOf r []) array byte)) latches ≡ withFuse (stateOf r latches) array byte
 fuse-beside r latches GeneralArray byte = refl
 fuse-beside r latches AuxiliaryArray byte = refl
+
+-- the word at 0x000004 + 2 × vector is the second after the vectors' start, and so on
+pub vector-index : (vector : ℕ) → (0x000004 + 2 * vector) / 2 ≡ 2 + vector
+vector-index vector = omega arith

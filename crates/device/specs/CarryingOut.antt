@@ -35,7 +35,7 @@ use Rattle.device.specs.declared.Decision.the-variants.{
   StoreFuse,
 }
 
--- what an event leaves: the answer's number and value, the state, the words of both arrays
+-- what an event leaves: the answer's number and value, the state, the words of both arrays; g and x are these words before
 pub record Left : Type 0 where
   pub number : ℕ
   pub value : ℕ
@@ -82,11 +82,6 @@ poweredOn s =
     record { pc = address 0; iopuwr = false; stopped = false; fgs = s .fgs; fas = s .fas; latches = blankLatches }
 
 -- ---- what an operation on an array comes to
-
--- a word that was looked for
-abbrev pub wordOrZero : WordFound → ℕ
-wordOrZero (Word word) = word
-wordOrZero NoWord = 0
 
 abbrev pub readAnswer : WordFound → Answer
 readAnswer (Word word) = Done word

@@ -2,7 +2,6 @@ pub mod Answers
 pub mod Rules
 pub mod CarryingOut
 pub mod OneEvent
-pub mod Internals
 pub mod Lists
 pub mod PageView
 pub mod Promises
@@ -15,3 +14,4 @@ pub mod Carried
 pub mod Secrecy
 pub mod SecrecyOfRuns
 pub mod SecrecyNotEmpty
+pub mod Internals

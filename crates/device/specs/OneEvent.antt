@@ -1,10 +1,10 @@
 -- Document 01, "What the student sees": one event on a device. Assumes nothing.
-use Prim.Native.Nat.{ℕ, _+_}
+use Prim.Native.Nat.{ℕ, _+_, _*_}
 use mathlib.Core.Bool.{Bool, true, false, not}
 use mathlib.Core.List.{List}
 use lib.ListN.{length, take, getD, replicate}
 use Rattle.measure.specs.Choice.{if_then_else_}
-use Rattle.measure.specs.Measures.{address}
+use Rattle.measure.specs.Measures.{address, locationOf}
 use Rattle.measure.specs.Words.{wordOf}
 use Rattle.part.specs.Descriptions.{valid, sized}
 use Rattle.part.specs.Places.{vectorWords}
@@ -30,7 +30,7 @@ use Rattle.event.specs.declared.Event.the-variants.{
 }
 use Rattle.device.specs.declared.Answer.the-variants.{MalformedEvent, BadDescription, WrongFlashLength}
 
--- "A new device: PC 0, flags clear, latches 0xFFFFFF, both fuse bytes 0x03."
+-- "A new device: PC 0, flags clear, latches and flash 0xFFFFFF, both fuse bytes 0x03." The flash is the lender's to blank.
 abbrev pub newState : State
 newState = record { pc = address 0; iopuwr = false; stopped = false; fgs = 0x03; fas = 0x03; latches = blankLatches }
 
@@ -38,7 +38,7 @@ newState = record { pc = address 0; iopuwr = false; stopped = false; fgs = 0x03;
 unfoldable pub vectorWord : List ℕ → Event → ℕ
 vectorWord vectors Next = 0
 vectorWord vectors (FlowChange target) = 0
-vectorWord vectors (Interrupt vector) = wordOf (getD vectors (2 + vector) 0)
+vectorWord vectors (Interrupt vector) = wordOf (getD vectors (locationOf (address (0x000004 + 2 * vector)) .0) 0)
 vectorWord vectors (TableRead a) = 0
 vectorWord vectors (TableWrite a word) = 0
 vectorWord vectors (ProgramRow a) = 0

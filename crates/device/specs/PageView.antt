@@ -19,7 +19,8 @@ unfoldable pub pageIn : ℕ → List ℕ → List ℕ → Place → List ℕ
 pageIn page g x Unimplemented = []
 pageIn page g x (InArray array n) = pageOf (arrayOf array g x) page n
 
--- "Refusals 7 and 8, and unimplemented or odd addresses, all give .. the empty part"
+-- "Refusals 7 and 8, and unimplemented or odd addresses, all give, without a number, the empty part at the
+-- front of the GS array." That it is GS's is not a number, and is not said here.
 unfoldable pub pageView : Description → List ℕ → List ℕ → ProgramAddress → List ℕ
 pageView d g x a =
     if (valid d && sized d (length g) (length x)) && even (a .0) then pageIn (d .page) g x (placeAt d a) else []

@@ -59,7 +59,7 @@ use Rattle.device.specs.declared.Decision.the-variants.{
 abbrev pub allowed : Bool → Decision → Answer → Decision
 allowed test decision answer = if test then decision else Refuse answer
 
--- Rule 1. "Next, to unimplemented memory: 4. Otherwise PC moves, also into VS."
+-- Rule 1. "Next, to unimplemented memory: 4. Otherwise PC moves, also into VS (house ..)."
 unfoldable pub next : Description → ProgramAddress → Decision
 next d pc = if isImplemented (placeAt d (address (pc .0 + 2))) then MoveTo (address (pc .0 + 2)) else Trap
 
@@ -86,7 +86,7 @@ unfoldable pub interrupt : Description → ℕ → ℕ → Origin → Decision
 interrupt d fas word FromAuxiliary = MoveTo (d .vector)
 interrupt d fas word FromGeneral = if even word then flowChange d fas FromGeneral (address word) else Trap
 
--- Rule 4. "Table read: the word if allowed, else 1." "Unimplemented: 1." Only below 0x000200 is VS for reads.
+-- Rule 4. "Table read: the word if allowed, else 1." "Unimplemented: 1 (house)." Only below 0x000200 is VS for reads.
 unfoldable pub readIn : Description → ℕ → ℕ → Origin → Place → Decision
 readIn d fgs fas origin Unimplemented = Refuse Zeroed
 readIn d fgs fas origin (InArray array n) =
@@ -126,7 +126,7 @@ eraseGeneral origin = allowed (not (fromGeneral origin)) (EraseWhole GeneralArra
 abbrev pub eraseAuxiliary : Description → Origin → Decision
 eraseAuxiliary d origin = allowed (fromGeneral origin && hasAuxiliary d) (EraseWhole AuxiliaryArray) NotStarted
 
--- Rule 10. "2 where it would take the level from high to none or lift write protection"; else it "stores the byte, masked".
+-- Rule 10. House: "2 where it would take the level from high to none or lift write protection"; else it "stores the byte, masked".
 abbrev pub releases : Bool → ℕ → ℕ → Bool
 releases keys old new =
     (isHigh (levelOf keys old) && not (isHigh (levelOf keys new)))
@@ -145,7 +145,7 @@ programFas d fgs fas byte =
     allowed ((hasAuxiliary d && isOpen (d .keys) fgs) && isOpen (d .keys) fas)
     (StoreFuse AuxiliaryArray (storedByte (d .keys) byte)) NotStarted
 
--- the event's own rule, at an origin; power-on, rule 12, has been decided before
+-- the event's own rule, at an origin; `decide` takes power-on, rule 12, before, so its line here is never reached
 unfoldable pub ownRule : Description → ProgramAddress → ℕ → ℕ → ℕ → Origin → Event → Decision
 ownRule d pc fgs fas word origin Next = next d pc
 ownRule d pc fgs fas word origin (FlowChange target) = flowChange d fas origin target

@@ -72,30 +72,6 @@ fn trapped(registers: Registers) -> Registers
     changed
 }
 
-fn reset_by_security(registers: Registers) -> Registers
-    ensures { λ r. ⌜ r ≡ registersOf (resetBySecurity (stateOf registers [])) ⌝ }
-{
-    Registers {
-        pc: ProgramAddress(0),
-        iopuwr: true,
-        stopped: registers.stopped,
-        fgs: registers.fgs,
-        fas: registers.fas,
-    }
-}
-
-fn powered_on(registers: Registers) -> Registers
-    ensures { λ r. ⌜ r ≡ registersOf (poweredOn (stateOf registers [])) ⌝ }
-{
-    Registers {
-        pc: ProgramAddress(0),
-        iopuwr: false,
-        stopped: false,
-        fgs: registers.fgs,
-        fas: registers.fas,
-    }
-}
-
 fn load(latches: &mut [u32], latch: u32, word: u32)
     ensures { λ _. ⌜ now (latches .exit) ≡ set (now (latches .entry)) latch word ⌝ }
 {
@@ -109,6 +85,32 @@ fn blank(latches: &mut [u32; 64])
     ensures { λ _. ⌜ now (latches .exit) ≡ blankLatches ⌝ }
 {
     *latches = [0xFFFFFF; 64];
+}
+
+fn reset_by_security(registers: Registers, latches: &mut [u32; 64]) -> Registers
+    ensures { λ r. ⌜ stateOf r (now (latches .exit)) ≡ resetBySecurity (stateOf registers (now (latches .entry))) ⌝ }
+{
+    blank(latches);
+    Registers {
+        pc: ProgramAddress(0),
+        iopuwr: true,
+        stopped: registers.stopped,
+        fgs: registers.fgs,
+        fas: registers.fas,
+    }
+}
+
+fn powered_on(registers: Registers, latches: &mut [u32; 64]) -> Registers
+    ensures { λ r. ⌜ stateOf r (now (latches .exit)) ≡ poweredOn (stateOf registers (now (latches .entry))) ⌝ }
+{
+    blank(latches);
+    Registers {
+        pc: ProgramAddress(0),
+        iopuwr: false,
+        stopped: false,
+        fgs: registers.fgs,
+        fas: registers.fas,
+    }
 }
 
 fn read_answer(found: WordFound) -> Answer
@@ -237,14 +239,8 @@ pub(crate) fn carry_out(
     match decision {
         Decision::Refuse(answer) => carried(answer, registers),
         Decision::Trap => carried(Answer::AddressTrap, trapped(registers)),
-        Decision::Reset => {
-            blank(latches);
-            carried(Answer::SecurityReset, reset_by_security(registers))
-        }
-        Decision::PowerUp => {
-            blank(latches);
-            carried(Answer::Done(0), powered_on(registers))
-        }
+        Decision::Reset => carried(Answer::SecurityReset, reset_by_security(registers, latches)),
+        Decision::PowerUp => carried(Answer::Done(0), powered_on(registers, latches)),
         Decision::MoveTo(target) => carried(Answer::Done(0), with_pc(registers, target)),
         Decision::LoadLatch(latch, word) => {
             load(latches, latch, word);

@@ -7,7 +7,7 @@ ghost use lib.ListN.{take, getD};
 ghost use Rattle.measure.specs.Words.{wordOf};
 ghost use Rattle.part.specs.Places.{vectorWords};
 ghost use Rattle.device.specs.OneEvent.{vectorWord};
-ghost use Rattle.device.specs.CarryingOut.{wordOrZero};
+ghost use Rattle.device.specs.Internals.{wordOrZero};
 
 fn word_or_zero(found: WordFound) -> u32
     ensures { λ r. ⌜ r ≡ wordOrZero found ⌝ }

@@ -39,7 +39,7 @@ goodByte b = ltb b 256
 abbrev pub goodVectorNumber : ℕ → Bool
 goodVectorNumber v = leb v 253
 
--- a byte that an event carries is below 256 by its type
+-- a byte that an event carries is a `u8` in the code, so only `decode` tests it
 unfoldable pub wellFormed : Event → Bool
 wellFormed Next = true
 wellFormed (FlowChange target) = goodAddress (target .0)

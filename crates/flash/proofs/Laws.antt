@@ -15,7 +15,7 @@ use Rattle.measure.specs.Words.{programmedWord, bitsNotSet}
 use Rattle.measure.proofs.Laws.{not-set-le}
 use Rattle.flash.specs.Parts.{blank, fits, part, withPart}
 use Rattle.flash.specs.Operations.{Outcome, outcome, eraseRange, programmedWords, total, rowNotSet}
-use Rattle.flash.specs.Promises.{ProgramWordsPromise}
+use Rattle.flash.specs.Internals.{ProgramWordsPromise}
 use Rattle.flash.specs.declared.RangeErased.{RangeErased}
 use Rattle.flash.specs.declared.RangeErased.the-variants.{Blank}
 use Rattle.flash.specs.declared.RowProgrammed.the-variants.{BitsNotSet}

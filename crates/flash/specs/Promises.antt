@@ -2,13 +2,9 @@
 use mathlib.Core.Path.{_≡_}
 use mathlib.Core.List.{List}
 use Prim.Native.Nat.{ℕ}
-use lib.ListN.{getD, set}
-use Rattle.measure.specs.Words.{programmedWord, bitsNotSet}
 use Rattle.flash.specs.Operations.{
   outcome,
   readWord,
-  programmedWords,
-  rowNotSet,
   programRow,
   eraseRange,
   erasePage,
@@ -32,13 +28,3 @@ ErasePagePromise flash size index result exit = outcome result exit ≡ erasePag
 
 abbrev pub PagePromise : List ℕ → ℕ → ℕ → List ℕ → Type 0
 PagePromise flash size index result = result ≡ pageOf flash size index
-
--- ---- the private functions
-
-pub record ProgramWordPromise (row : List ℕ) (index latch result : ℕ) (exit : List ℕ) : Type 0 where
-  pub not-set : result ≡ bitsNotSet (getD row index 0) latch
-  pub words : exit ≡ set row index (programmedWord (getD row index 0) latch)
-
-pub record ProgramWordsPromise (row latches : List ℕ) (result : ℕ) (exit : List ℕ) : Type 0 where
-  pub not-set : result ≡ rowNotSet row latches
-  pub words : exit ≡ programmedWords row latches

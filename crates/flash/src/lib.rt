@@ -3,10 +3,9 @@ ghost use mathlib.Core.Path.{_≡_};
 ghost use Prim.Native.Nat.{_<_, _≤_};
 ghost use lib.ListN.{length, replicate};
 ghost use Rattle.flash.specs.Parts.{fits as fitsIn, startOf, blank};
+ghost use Rattle.flash.specs.Internals.{ProgramWordPromise, ProgramWordsPromise};
 ghost use Rattle.flash.specs.Promises.{
   ReadWordPromise,
-  ProgramWordPromise,
-  ProgramWordsPromise,
   ProgramRowPromise,
   EraseRangePromise,
   ErasePagePromise,

@@ -14,8 +14,8 @@ abbrev pub writable : ℕ → Bool
 writable byte = eqb (byte % 2) 1
 
 -- "Bit 1 set: no code protection."
-abbrev pub unprotected : ℕ → Bool
-unprotected byte = eqb (byte / 2 % 2) 1
+abbrev pub noCodeProtection : ℕ → Bool
+noCodeProtection byte = eqb (byte / 2 % 2) 1
 
 -- "Bits 5 and 4: key."
 abbrev pub keyOf : ℕ → ℕ
@@ -30,14 +30,14 @@ storedByte keys byte = andOf 8 byte (maskOf keys)
 
 -- "With keys, the key must be 00 if bits 1 and 0 are both set, and 11 otherwise."
 abbrev pub keyFor : ℕ → ℕ
-keyFor stored = if unprotected stored && writable stored then 0b00 else 0b11
+keyFor stored = if noCodeProtection stored && writable stored then 0b00 else 0b11
 
 abbrev pub wrongKey : Bool → ℕ → Bool
 wrongKey keys stored = keys && not (eqb (keyOf stored) (keyFor stored))
 
 -- "Level is high if bit 1 is clear or the key is wrong; else none."
 abbrev pub levelOfStored : Bool → ℕ → Level
-levelOfStored keys stored = if not (unprotected stored) || wrongKey keys stored then High else None
+levelOfStored keys stored = if not (noCodeProtection stored) || wrongKey keys stored then High else None
 
 unfoldable pub levelOf : Bool → ℕ → Level
 levelOf keys byte = levelOfStored keys (storedByte keys byte)

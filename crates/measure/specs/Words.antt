@@ -16,7 +16,7 @@ unfoldable pub notSetOf : ℕ → ℕ → ℕ → ℕ
 notSetOf zero old latch = 0
 notSetOf (suc digits) old latch = min (latch % 2) (1 - old % 2) + notSetOf digits (old / 2) (latch / 2)
 
--- rule 6: what programming makes of a word
+-- rule 6: "old word AND latch, word by word (house)"
 abbrev pub programmedWord : ℕ → ℕ → ℕ
 programmedWord old latch = andOf 24 old latch
 

@@ -40,6 +40,6 @@ auxiliaryWords d = d .auxiliary * d .page
 abbrev pub sized : Description → ℕ → ℕ → Bool
 sized d general auxiliary = eqb general (generalWords d) && eqb auxiliary (auxiliaryWords d)
 
--- "Bench device: 512-word pages, 10 GS pages, 4 AS pages, keys present, vector 0x7FFFEA."
+-- "Bench device .. : 512-word pages, 10 GS pages .., 4 AS pages .., keys present, vector 0x7FFFEA."
 abbrev pub bench : Description
 bench = record { page = 512; general = 10; auxiliary = 4; keys = true; vector = address 0x7FFFEA }

@@ -79,7 +79,8 @@ abbrev pub segmentOf : ℕ → FlashArray → ℕ → Segment
 segmentOf vectors GeneralArray n = if ltb n vectors then Vectors else General
 segmentOf vectors AuxiliaryArray n = Auxiliary
 
--- "VS takes its level and write protection from FGS."
+-- "VS takes its level and write protection from FGS. FAS is ignored on a part with no AS": no place lies in AS there, and
+-- rule 11 refuses
 abbrev pub byteOf : ℕ → ℕ → Segment → ℕ
 byteOf fgs fas General = fgs
 byteOf fgs fas Auxiliary = fas

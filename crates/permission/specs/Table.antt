@@ -1,4 +1,4 @@
--- Table 23-1 of 004: the rows that ask where the code runs and what the target's fuse byte says.
+-- Table 23-1 of the manual (section 23, revision B, source document 004): the rows that ask where the code runs and what the target's fuse byte says.
 -- Assumes nothing.
 use Prim.Native.Nat.{ℕ, _+_}
 use mathlib.Core.Bool.{Bool, true, false}

@@ -14,7 +14,8 @@ use Rattle.part.specs.declared.Description.{Description}
 use Rattle.device.specs.declared.State.{State}
 use Rattle.device.specs.declared.Answer.the-variants.{BadDescription, WrongFlashLength}
 
--- answers 6 to 9 refuse the call, and a refused call leaves the state's numbers as they were
+-- answers 6 to 9 refuse the call, and a refused call leaves the state's numbers as they were; after each other answer, 1, 2
+-- and 5 too, they are written back
 abbrev pub written : ℕ → List ℕ → State → List ℕ
 written number numbers after = if leb 6 number then numbers else numbersOf after
 

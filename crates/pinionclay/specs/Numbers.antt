@@ -1,4 +1,4 @@
--- A description and a state as plain numbers, for callers in C and Rust. Assumes nothing.
+-- A description and a state as plain numbers, in the words of include/pinionclay.h. Assumes nothing.
 use Prim.Native.Nat.{ℕ, _%_}
 use mathlib.Core.Path.{_≡_, refl}
 use mathlib.Core.Bool.{Bool, true, false, not}

@@ -1,6 +1,9 @@
 -- `device::carrying::carry_out` meets its contract: each decision in its own way. Assumes nothing.
-use Rattle.device.specs.CarryingOut.{carryOut}
+use mathlib.Core.Path.{ap}
+use Rattle.device.specs.CarryingOut.{leaves, carryOut}
 use Rattle.device.specs.Internals.{stateOf}
+use Rattle.device.specs.declared.State.{State}
+use Rattle.device.specs.declared.Answer.the-variants.{Done, SecurityReset}
 use Rattle.device.proofs.Laws.{fuse-beside}
 use borrow.Author.Needs.{needs}
 use Rattle.device.proofs.carrying.carry_out.Statement.{statement}
@@ -24,9 +27,6 @@ carried-requires-2 c κs = search needs
 enum-told-2 : tie.Need-enum-told-2
 enum-told-2 c = search needs
 
-blank-requires : tie.Need-blank-requires
-blank-requires c κs = search needs
-
 reset-by-security-requires : tie.Need-reset-by-security-requires
 reset-by-security-requires c κs = search needs
 
@@ -35,9 +35,6 @@ carried-requires-3 c κs = search needs
 
 enum-told-3 : tie.Need-enum-told-3
 enum-told-3 c = search needs
-
-blank-requires-2 : tie.Need-blank-requires-2
-blank-requires-2 c κs = search needs
 
 powered-on-requires : tie.Need-powered-on-requires
 powered-on-requires c κs = search needs
@@ -130,11 +127,15 @@ returns-2 c = rw (c .before .before .enum-told .given .1, c .carried2 .ensures, 
 
 returns-3 : tie.Need-returns-3
 unfolding carryOut
-returns-3 c = rw (c .before .before .before .before .enum-told2 .given .1, c .carried3 .ensures, c .before .reset-by-security .ensures, c .before .before .blank .ensures)
+returns-3 c =
+    rw (c .before .before .before .enum-told2 .given .1, c .carried3 .ensures)
+    (ap (λ (s : State). leaves SecurityReset s (c .before .before .before .before .before .before .before .args .general .now) (c .before .before .before .before .before .before .before .args .auxiliary .now)) (c .before .reset-by-security .ensures))
 
 returns-4 : tie.Need-returns-4
 unfolding carryOut
-returns-4 c = rw (c .before .before .before .before .enum-told3 .given .1, c .carried4 .ensures, c .before .powered-on .ensures, c .before .before .blank2 .ensures)
+returns-4 c =
+    rw (c .before .before .before .enum-told3 .given .1, c .carried4 .ensures)
+    (ap (λ (s : State). leaves (Done 0) s (c .before .before .before .before .before .before .before .args .general .now) (c .before .before .before .before .before .before .before .args .auxiliary .now)) (c .before .powered-on .ensures))
 
 returns-5 : tie.Need-returns-5
 unfolding carryOut
@@ -201,11 +202,9 @@ carry-out-spec =
     trapped-requires
     carried-requires-2
     enum-told-2
-    blank-requires
     reset-by-security-requires
     carried-requires-3
     enum-told-3
-    blank-requires-2
     powered-on-requires
     carried-requires-4
     enum-known-decision-2

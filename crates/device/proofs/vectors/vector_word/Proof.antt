@@ -1,6 +1,7 @@
 -- `device::vectors::vector_word` meets its contract: only an interrupt reads a word. Assumes nothing.
 use Rattle.device.specs.OneEvent.{vectorWord}
 use borrow.Author.Needs.{needs}
+use Rattle.device.proofs.Laws.{vector-index}
 use Rattle.device.proofs.vectors.vector_word.Statement.{statement}
 use Rattle.device.proofs.vectors.vector_word.Tie as tie
 
@@ -45,7 +46,7 @@ enum-told-11 c = search needs
 
 returns : tie.Need-returns
 unfolding vectorWord
-returns c = rw (c .before .before .event .given .1) (c .word-of .ensures)
+returns c = rw (c .before .before .event .given .1, vector-index (c .before .before .event .given .0 .0)) (c .word-of .ensures)
 
 returns-2 : tie.Need-returns-2
 unfolding vectorWord
