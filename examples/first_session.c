@@ -15,7 +15,11 @@ static void blank(uint32_t *words, size_t length) {
 int main(void) {
     static uint32_t general[GENERAL_WORDS], auxiliary[AUXILIARY_WORDS];
     uint32_t state[STATE_NUMBERS] = {0x000400, 0, 0, 0x03, 0x31};
-    const uint32_t events[3 * EVENTS] = {2, 0x000500, 0, 4, 0x7FF000, 0, 2, 0x7FFFBE, 0};
+    const uint32_t events[3 * EVENTS] = {
+        PINIONCLAY_FLOW_CHANGE, 0x000500, 0,
+        PINIONCLAY_TABLE_READ,  0x7FF000, 0,
+        PINIONCLAY_FLOW_CHANGE, 0x7FFFBE, 0,
+    };
     uint32_t slots[2 * EVENTS] = {0};
     size_t count;
     uint32_t value;
@@ -32,7 +36,8 @@ int main(void) {
                events[3 * event + 1], slots[2 * event], slots[2 * event + 1]);
     printf("PC 0x%06" PRIX32 ", IOPUWR %" PRIu32 "\n", state[0], state[1]);
 
-    answer = pinionclay_step(bench, state, general, GENERAL_WORDS, auxiliary, AUXILIARY_WORDS, 4, 0x000100, 0, &value);
+    answer = pinionclay_step(bench, state, general, GENERAL_WORDS, auxiliary, AUXILIARY_WORDS, PINIONCLAY_TABLE_READ,
+                             0x000100, 0, &value);
     printf("step, read 0x000100: answer %" PRIu32 ", value 0x%06" PRIX32 "\n", answer, value);
     return 0;
 }
