@@ -56,8 +56,8 @@ use Rattle.device.specs.declared.Decision.the-variants.{
 }
 
 -- a decision where a test holds, else an answer that changes nothing
-abbrev pub allowed : Bool → Decision → Answer → Decision
-allowed test decision answer = if test then decision else Refuse answer
+abbrev pub orRefuse : Bool → Decision → Answer → Decision
+orRefuse test decision answer = if test then decision else Refuse answer
 
 -- Rule 1. "Next, to unimplemented memory: 4. Otherwise PC moves, also into VS (house ..)."
 unfoldable pub next : Description → ProgramAddress → Decision
@@ -90,7 +90,7 @@ interrupt d fas word FromGeneral = if even word then flowChange d fas FromGenera
 unfoldable pub readIn : Description → ℕ → ℕ → Origin → Place → Decision
 readIn d fgs fas origin Unimplemented = Refuse Zeroed
 readIn d fgs fas origin (InArray array n) =
-    allowed (allows Read origin (targetOf (d .keys) fgs fas (segmentOf vectorWords array n))) (ReadAt array n) Zeroed
+    orRefuse (allows Read origin (targetOf (d .keys) fgs fas (segmentOf vectorWords array n))) (ReadAt array n) Zeroed
 
 abbrev pub tableRead : Description → ℕ → ℕ → Origin → ProgramAddress → Decision
 tableRead d fgs fas origin a = readIn d fgs fas origin (placeAt d a)
@@ -106,7 +106,7 @@ mayChange d fgs fas origin array n = allows Program origin (targetOf (d .keys) f
 -- Rule 6. "Program row"; "Unimplemented: 2."
 unfoldable pub programIn : Description → ℕ → ℕ → Origin → Place → Decision
 programIn d fgs fas origin Unimplemented = Refuse NotStarted
-programIn d fgs fas origin (InArray array n) = allowed (mayChange d fgs fas origin array n) (ProgramAt array n) NotStarted
+programIn d fgs fas origin (InArray array n) = orRefuse (mayChange d fgs fas origin array n) (ProgramAt array n) NotStarted
 
 abbrev pub programRow : Description → ℕ → ℕ → Origin → ProgramAddress → Decision
 programRow d fgs fas origin a = programIn d fgs fas origin (placeAt d a)
@@ -114,17 +114,17 @@ programRow d fgs fas origin a = programIn d fgs fas origin (placeAt d a)
 -- Rule 7. "Erase page"; "Unimplemented: 2."
 unfoldable pub eraseIn : Description → ℕ → ℕ → Origin → Place → Decision
 eraseIn d fgs fas origin Unimplemented = Refuse NotStarted
-eraseIn d fgs fas origin (InArray array n) = allowed (mayChange d fgs fas origin array n) (EraseAt array n) NotStarted
+eraseIn d fgs fas origin (InArray array n) = orRefuse (mayChange d fgs fas origin array n) (EraseAt array n) NotStarted
 
 abbrev pub erasePage : Description → ℕ → ℕ → Origin → ProgramAddress → Decision
 erasePage d fgs fas origin a = eraseIn d fgs fas origin (placeAt d a)
 
 -- Rule 9. "Kind 8 starts only with origin AS, kind 9 only with origin GS on a part that has AS; else 2."
 abbrev pub eraseGeneral : Origin → Decision
-eraseGeneral origin = allowed (not (fromGeneral origin)) (EraseWhole GeneralArray) NotStarted
+eraseGeneral origin = orRefuse (not (fromGeneral origin)) (EraseWhole GeneralArray) NotStarted
 
 abbrev pub eraseAuxiliary : Description → Origin → Decision
-eraseAuxiliary d origin = allowed (fromGeneral origin && hasAuxiliary d) (EraseWhole AuxiliaryArray) NotStarted
+eraseAuxiliary d origin = orRefuse (fromGeneral origin && hasAuxiliary d) (EraseWhole AuxiliaryArray) NotStarted
 
 -- Rule 10. House: "2 where it would take the level from high to none or lift write protection"; else it "stores the byte, masked".
 abbrev pub releases : Bool → ℕ → ℕ → Bool
@@ -134,7 +134,7 @@ releases keys old new =
 
 unfoldable pub programFgs : Description → ℕ → ℕ → Decision
 programFgs d fgs byte =
-    allowed (not (releases (d .keys) fgs (storedByte (d .keys) byte))) (StoreFuse GeneralArray (storedByte (d .keys) byte)) NotStarted
+    orRefuse (not (releases (d .keys) fgs (storedByte (d .keys) byte))) (StoreFuse GeneralArray (storedByte (d .keys) byte)) NotStarted
 
 -- Rule 11. "2 on a part with no AS, or unless both segments are at level none and writable. Else it stores the masked byte."
 abbrev pub isOpen : Bool → ℕ → Bool
@@ -142,7 +142,7 @@ isOpen keys byte = not (isHigh (levelOf keys byte)) && not (isProtected (writePr
 
 unfoldable pub programFas : Description → ℕ → ℕ → ℕ → Decision
 programFas d fgs fas byte =
-    allowed ((hasAuxiliary d && isOpen (d .keys) fgs) && isOpen (d .keys) fas)
+    orRefuse ((hasAuxiliary d && isOpen (d .keys) fgs) && isOpen (d .keys) fas)
     (StoreFuse AuxiliaryArray (storedByte (d .keys) byte)) NotStarted
 
 -- the event's own rule, at an origin; `decide` takes power-on, rule 12, before, so its line here is never reached

@@ -61,33 +61,34 @@ alike-but GeneralArray pc byte word word′ =
     front w = take-set-le vectorWords general vectorWords w (omega arith)
 alike-but AuxiliaryArray pc byte word word′ = record { state = refl; other = refl; lengths = simp length-set; vectors = refl }
 
--- S, PC, its fuse byte, an event; then whether S is at high level, whether its own code issues the event, the answer's number,
--- and its value on the devices with the words 1 and 2
+-- S, PC, its fuse byte, an event; then whether S is at high level, whether its own code issues the event, and the answer's
+-- number and value on the device with the word 1, and on the one with the word 2
 pub data Pair : Type 0 where
-  Answers : FlashArray → ℕ → ℕ → Event → Bool → Bool → ℕ → ℕ → ℕ → Pair
+  Answers : FlashArray → ℕ → ℕ → Event → Bool → Bool → ℕ → ℕ → ℕ → ℕ → Pair
 
 -- the pair, with what the definitions compute in the place of what it says
 unfoldable pub computed : Pair → Pair
-computed (Answers S pc byte event high own number first second) =
+computed (Answers S pc byte event high own number value number′ value′) =
     Answers S pc byte event (highIn bench S (stateAt S pc byte)) (issuedFrom bench S (stateAt S pc byte))
     (stepOn bench (deviceWith S pc byte 1) event .number)
     (stepOn bench (deviceWith S pc byte 1) event .value)
+    (stepOn bench (deviceWith S pc byte 2) event .number)
     (stepOn bench (deviceWith S pc byte 2) event .value)
 
 unfoldable pub pairs : List Pair
 pairs =
     -- AS at level none, read by GS: the answers differ, so the premise is needed; AS high, by AS itself: the words do differ;
     -- AS high, by GS: zeroed on both
-    Answers AuxiliaryArray 0x000400 0x03 (TableRead (address 0x7FF000)) false false 0 1 2
-    ∷ Answers AuxiliaryArray 0x7FF000 0x31 (TableRead (address 0x7FF000)) true true 0 1 2
-    ∷ Answers AuxiliaryArray 0x000400 0x31 (TableRead (address 0x7FF000)) true false 1 0 0
+    Answers AuxiliaryArray 0x000400 0x03 (TableRead (address 0x7FF000)) false false 0 1 0 2
+    ∷ Answers AuxiliaryArray 0x7FF000 0x31 (TableRead (address 0x7FF000)) true true 0 1 0 2
+    ∷ Answers AuxiliaryArray 0x000400 0x31 (TableRead (address 0x7FF000)) true false 1 0 1 0
     -- the same three of GS
-    ∷ Answers GeneralArray 0x7FF000 0x03 (TableRead (address 0x000200)) false false 0 1 2
-    ∷ Answers GeneralArray 0x000400 0x31 (TableRead (address 0x000200)) true true 0 1 2
-    ∷ Answers GeneralArray 0x7FF000 0x31 (TableRead (address 0x000200)) true false 1 0 0
+    ∷ Answers GeneralArray 0x7FF000 0x03 (TableRead (address 0x000200)) false false 0 1 0 2
+    ∷ Answers GeneralArray 0x000400 0x31 (TableRead (address 0x000200)) true true 0 1 0 2
+    ∷ Answers GeneralArray 0x7FF000 0x31 (TableRead (address 0x000200)) true false 1 0 1 0
     -- at high level the clearing erase is done, at the other segment's request
-    ∷ Answers AuxiliaryArray 0x000400 0x31 EraseAuxiliary true false 0 0 0
-    ∷ Answers GeneralArray 0x7FF000 0x31 EraseGeneral true false 0 0 0
+    ∷ Answers AuxiliaryArray 0x000400 0x31 EraseAuxiliary true false 0 0 0 0
+    ∷ Answers GeneralArray 0x7FF000 0x31 EraseGeneral true false 0 0 0 0
     ∷ []
 
 pub not-empty : map computed pairs ≡ pairs

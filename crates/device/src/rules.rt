@@ -14,7 +14,7 @@ ghost use mathlib.Core.Path.{_≡_};
 ghost use Prim.Native.Nat.{_<_};
 ghost use Rattle.part.specs.Descriptions.{valid};
 ghost use Rattle.device.specs.Rules.{
-  allowed as allowedOr,
+  orRefuse,
   next as nextRule,
   isShut,
   flowChange,
@@ -41,8 +41,8 @@ ghost use Rattle.device.specs.Rules.{
 // The first of the last 32 instruction locations.
 const ACCESS_AREA: u32 = 0x400000 - 32;
 
-fn allowed(test: bool, decision: Decision, answer: Answer) -> Decision
-    ensures { λ r. ⌜ r ≡ allowedOr test decision answer ⌝ }
+fn or_refuse(test: bool, decision: Decision, answer: Answer) -> Decision
+    ensures { λ r. ⌜ r ≡ orRefuse test decision answer ⌝ }
 {
     if test {
         decision
@@ -121,7 +121,7 @@ fn read_in(description: Description, fgs: u8, fas: u8, origin: Origin, place: Pl
             let segment = part::segment_of(part::VECTOR_WORDS, array, index);
             let target = part::target_of(description.keys, fgs, fas, segment);
             let test = permission::allowed(Operation::Read, origin, target);
-            allowed(test, Decision::ReadAt(array, index), Answer::Zeroed)
+            or_refuse(test, Decision::ReadAt(array, index), Answer::Zeroed)
         }
     }
 }
@@ -176,7 +176,7 @@ fn program_in(description: Description, fgs: u8, fas: u8, origin: Origin, place:
         Place::Unimplemented => Decision::Refuse(Answer::NotStarted),
         Place::InArray(array, index) => {
             let test = may_change(description, fgs, fas, origin, array, index);
-            allowed(test, Decision::ProgramAt(array, index), Answer::NotStarted)
+            or_refuse(test, Decision::ProgramAt(array, index), Answer::NotStarted)
         }
     }
 }
@@ -207,7 +207,7 @@ fn erase_in(description: Description, fgs: u8, fas: u8, origin: Origin, place: P
         Place::Unimplemented => Decision::Refuse(Answer::NotStarted),
         Place::InArray(array, index) => {
             let test = may_change(description, fgs, fas, origin, array, index);
-            allowed(test, Decision::EraseAt(array, index), Answer::NotStarted)
+            or_refuse(test, Decision::EraseAt(array, index), Answer::NotStarted)
         }
     }
 }
@@ -236,7 +236,7 @@ fn erase_general(origin: Origin) -> Decision
     ensures { λ r. ⌜ r ≡ eraseGeneral origin ⌝ }
 {
     let test = !part::from_general(origin);
-    allowed(
+    or_refuse(
         test,
         Decision::EraseWhole(FlashArray::GeneralArray),
         Answer::NotStarted,
@@ -247,7 +247,7 @@ fn erase_auxiliary(description: Description, origin: Origin) -> Decision
     ensures { λ r. ⌜ r ≡ eraseAuxiliary description origin ⌝ }
 {
     let test = part::from_general(origin) & part::has_auxiliary(description);
-    allowed(
+    or_refuse(
         test,
         Decision::EraseWhole(FlashArray::AuxiliaryArray),
         Answer::NotStarted,
@@ -271,7 +271,7 @@ fn program_fgs(description: Description, fgs: u8, byte: u8) -> Decision
 {
     let stored = fuse::stored_byte(description.keys, byte);
     let test = !releases(description.keys, fgs, stored);
-    allowed(
+    or_refuse(
         test,
         Decision::StoreFuse(FlashArray::GeneralArray, stored),
         Answer::NotStarted,
@@ -295,7 +295,7 @@ fn program_fas(description: Description, fgs: u8, fas: u8, byte: u8) -> Decision
     let test = part::has_auxiliary(description)
         & is_open(description.keys, fgs)
         & is_open(description.keys, fas);
-    allowed(
+    or_refuse(
         test,
         Decision::StoreFuse(FlashArray::AuxiliaryArray, stored),
         Answer::NotStarted,

@@ -88,7 +88,7 @@ fn write_unless_refused(number: u32, state: State, numbers: &mut [u32])
 #[no_mangle]
 pub extern "C" fn pinionclay_run(
     description: &[u32; 5],
-    state: &mut [u32; 69],
+    state: &mut [u32; NUMBERS],
     gs: &mut [u32],
     aux: &mut [u32],
     events: &[u32],
@@ -113,7 +113,7 @@ pub extern "C" fn pinionclay_run(
 #[no_mangle]
 pub extern "C" fn pinionclay_step(
     description: &[u32; 5],
-    state: &mut [u32; 69],
+    state: &mut [u32; NUMBERS],
     gs: &mut [u32],
     aux: &mut [u32],
     kind: u32,

@@ -9,12 +9,12 @@ from-general-requires c κs = search needs
 has-auxiliary-requires : tie.Need-has-auxiliary-requires
 has-auxiliary-requires c κs = search needs
 
-allowed-requires : tie.Need-allowed-requires
-allowed-requires c κs = search needs
+or-refuse-requires : tie.Need-or-refuse-requires
+or-refuse-requires c κs = search needs
 
 returns : tie.Need-returns
-returns c = rw (← c .before .before .from-general .ensures, ← c .before .has-auxiliary .ensures) (c .allowed .ensures)
+returns c = rw (← c .before .before .from-general .ensures, ← c .before .has-auxiliary .ensures) (c .or-refuse .ensures)
 
 pub erase-auxiliary-spec : {M : Type 1} → statement M
 erase-auxiliary-spec =
-    tie.close (tie.spec from-general-requires has-auxiliary-requires allowed-requires returns)
+    tie.close (tie.spec from-general-requires has-auxiliary-requires or-refuse-requires returns)

@@ -6,11 +6,11 @@ use Rattle.device.proofs.rules.erase_general.Tie as tie
 from-general-requires : tie.Need-from-general-requires
 from-general-requires c κs = search needs
 
-allowed-requires : tie.Need-allowed-requires
-allowed-requires c κs = search needs
+or-refuse-requires : tie.Need-or-refuse-requires
+or-refuse-requires c κs = search needs
 
 returns : tie.Need-returns
-returns c = rw (← c .before .from-general .ensures) (c .allowed .ensures)
+returns c = rw (← c .before .from-general .ensures) (c .or-refuse .ensures)
 
 pub erase-general-spec : {M : Type 1} → statement M
-erase-general-spec = tie.close (tie.spec from-general-requires allowed-requires returns)
+erase-general-spec = tie.close (tie.spec from-general-requires or-refuse-requires returns)

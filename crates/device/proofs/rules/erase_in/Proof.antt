@@ -13,8 +13,8 @@ enum-known-place c = search needs
 may-change-requires : tie.Need-may-change-requires
 may-change-requires c κs = search needs
 
-allowed-requires : tie.Need-allowed-requires
-allowed-requires c κs = search needs
+or-refuse-requires : tie.Need-or-refuse-requires
+or-refuse-requires c κs = search needs
 
 returns : tie.Need-returns
 unfolding eraseIn
@@ -22,9 +22,9 @@ returns c = rw (c .enum-told .given .1)
 
 returns-2 : tie.Need-returns-2
 unfolding eraseIn
-returns-2 c = rw (c .before .before .before .place .given .1, ← c .before .may-change .ensures) (c .allowed .ensures)
+returns-2 c = rw (c .before .before .before .place .given .1, ← c .before .may-change .ensures) (c .or-refuse .ensures)
 
 pub erase-in-spec : {M : Type 1} → statement M
 erase-in-spec =
     tie.close
-    (tie.spec enum-told enum-known-place may-change-requires allowed-requires returns returns-2)
+    (tie.spec enum-told enum-known-place may-change-requires or-refuse-requires returns returns-2)

@@ -16,12 +16,12 @@ is-open-requires c κs = search needs
 is-open-requires-2 : tie.Need-is-open-requires-2
 is-open-requires-2 c κs = search needs
 
-allowed-requires : tie.Need-allowed-requires
-allowed-requires c κs = search needs
+or-refuse-requires : tie.Need-or-refuse-requires
+or-refuse-requires c κs = search needs
 
 returns : tie.Need-returns
 unfolding programFas
-returns c = rw (← c .before .before .before .before .stored-byte .ensures, ← c .before .before .before .has-auxiliary .ensures, ← c .before .before .is-open .ensures, ← c .before .is-open2 .ensures) (c .allowed .ensures)
+returns c = rw (← c .before .before .before .before .stored-byte .ensures, ← c .before .before .before .has-auxiliary .ensures, ← c .before .before .is-open .ensures, ← c .before .is-open2 .ensures) (c .or-refuse .ensures)
 
 pub program-fas-spec : {M : Type 1} → statement M
 program-fas-spec =
@@ -31,5 +31,5 @@ program-fas-spec =
     has-auxiliary-requires
     is-open-requires
     is-open-requires-2
-    allowed-requires
+    or-refuse-requires
     returns)

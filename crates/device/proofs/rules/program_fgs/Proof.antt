@@ -10,13 +10,13 @@ stored-byte-requires c κs = search needs
 releases-requires : tie.Need-releases-requires
 releases-requires c κs = search needs
 
-allowed-requires : tie.Need-allowed-requires
-allowed-requires c κs = search needs
+or-refuse-requires : tie.Need-or-refuse-requires
+or-refuse-requires c κs = search needs
 
 returns : tie.Need-returns
 unfolding programFgs
-returns c = rw (← c .before .before .stored-byte .ensures, ← c .before .releases .ensures) (c .allowed .ensures)
+returns c = rw (← c .before .before .stored-byte .ensures, ← c .before .releases .ensures) (c .or-refuse .ensures)
 
 pub program-fgs-spec : {M : Type 1} → statement M
 program-fgs-spec =
-    tie.close (tie.spec stored-byte-requires releases-requires allowed-requires returns)
+    tie.close (tie.spec stored-byte-requires releases-requires or-refuse-requires returns)

@@ -19,8 +19,8 @@ target-of-requires c κs = search needs
 allowed-requires : tie.Need-allowed-requires
 allowed-requires c κs = search needs
 
-allowed-requires-2 : tie.Need-allowed-requires-2
-allowed-requires-2 c κs = search needs
+or-refuse-requires : tie.Need-or-refuse-requires
+or-refuse-requires c κs = search needs
 
 returns : tie.Need-returns
 unfolding readIn
@@ -28,7 +28,7 @@ returns c = rw (c .enum-told .given .1)
 
 returns-2 : tie.Need-returns-2
 unfolding readIn
-returns-2 c = rw (c .before .before .before .before .before .place .given .1) (rw (c .before .allowed .ensures, c .before .before .target-of .ensures, c .before .before .before .segment-of .ensures) at (c .allowed2 .ensures))
+returns-2 c = rw (c .before .before .before .before .before .place .given .1) (rw (c .before .allowed .ensures, c .before .before .target-of .ensures, c .before .before .before .segment-of .ensures) at (c .or-refuse .ensures))
 
 pub read-in-spec : {M : Type 1} → statement M
 read-in-spec =
@@ -39,6 +39,6 @@ read-in-spec =
     segment-of-requires
     target-of-requires
     allowed-requires
-    allowed-requires-2
+    or-refuse-requires
     returns
     returns-2)
