@@ -1,7 +1,7 @@
 //! Runs both models on one scenario and finds the first number in which they differ.
 
 use crate::library::{RunReport, StateNumbers, StepReport};
-use crate::scenario::{Scenario, COUNTER};
+use crate::scenario::{lent_slots, Scenario, COUNTER};
 use crate::subject::Subject;
 use std::fmt;
 
@@ -42,6 +42,26 @@ impl Arrays {
         )
     }
 
+    /// Runs a list.
+    pub fn run(
+        &mut self,
+        subject: &Subject,
+        scenario: &Scenario,
+        events: &[u32],
+        limit: usize,
+        slots: &mut [u32],
+    ) -> RunReport {
+        (subject.run)(
+            &scenario.description,
+            &mut self.state,
+            &mut self.general,
+            &mut self.auxiliary,
+            events,
+            limit,
+            slots,
+        )
+    }
+
     fn words(&self) -> usize {
         self.general.len() + self.auxiliary.len()
     }
@@ -54,10 +74,11 @@ pub struct RunRecord {
     pub slots: Vec<u32>,
 }
 
-/// What a step gave back, and the PC it started from.
+/// What a step gave back, the PC it started from, and whether that PC was executable.
 #[derive(Clone, Copy, Debug, PartialEq, Eq)]
 pub struct StepRecord {
     pub counter: u32,
+    pub executable: bool,
     pub event: [u32; 3],
     pub report: StepReport,
 }
@@ -76,12 +97,10 @@ pub fn compare_run(subjects: [Subject; 2], scenario: &Scenario) -> Result<RunRec
 
 fn run(subject: &Subject, scenario: &Scenario) -> (RunRecord, Arrays) {
     let mut arrays = Arrays::new(scenario);
-    let mut slots = scenario.lent_slots();
-    let report = (subject.run)(
-        &scenario.description,
-        &mut arrays.state,
-        &mut arrays.general,
-        &mut arrays.auxiliary,
+    let mut slots = lent_slots(scenario.slots);
+    let report = arrays.run(
+        subject,
+        scenario,
         &scenario.events,
         scenario.limit,
         &mut slots,
@@ -100,8 +119,7 @@ pub fn answers(subject: &Subject, scenario: &Scenario) -> String {
     });
     let steps: Vec<[u32; 2]> = steps.collect();
     let RunReport { answer, count } = report;
-    let name = subject.name;
-    format!("{name}: run {answer} with count {count}: {answered:x?}; steps: {steps:x?}")
+    format!("run {answer} with count {count}: {answered:x?}; steps: {steps:x?}")
 }
 
 /// The most words compared over a list when flash is compared after each of its steps.
@@ -132,6 +150,7 @@ pub fn compare_steps(
         compare().map_err(|difference: Difference| difference.after_event(position))?;
         records.push(StepRecord {
             counter,
+            executable: scenario.origin(counter).is_some(),
             event,
             report,
         });
@@ -148,6 +167,14 @@ impl Difference {
             ..self
         }
     }
+
+    /// Adds the event that the run began with.
+    pub fn in_run_from(self, position: usize) -> Difference {
+        Difference {
+            place: format!("{} in a run from event {position}", self.place),
+            ..self
+        }
+    }
 }
 
 impl fmt::Display for Difference {
@@ -161,8 +188,7 @@ impl fmt::Display for Difference {
     }
 }
 
-/// Compares the answers and values of a step.
-pub fn same_step(report: StepReport, other: StepReport) -> Result<(), Difference> {
+fn same_step(report: StepReport, other: StepReport) -> Result<(), Difference> {
     same("answer", report.answer, other.answer)?;
     same("value", report.value, other.value)
 }
@@ -172,7 +198,8 @@ pub fn same_state(arrays: &Arrays, others: &Arrays) -> Result<(), Difference> {
     same_numbers("state", &arrays.state, &others.state)
 }
 
-fn same_flash(arrays: &Arrays, others: &Arrays) -> Result<(), Difference> {
+/// Compares all words.
+pub fn same_flash(arrays: &Arrays, others: &Arrays) -> Result<(), Difference> {
     same_numbers("general", &arrays.general, &others.general)?;
     same_numbers("auxiliary", &arrays.auxiliary, &others.auxiliary)
 }
@@ -188,7 +215,8 @@ pub fn same_numbers(place: &str, numbers: &[u32], others: &[u32]) -> Result<(), 
     same("length", numbers.len() as u64, others.len() as u64)
 }
 
-fn same<T: Into<u64>>(place: &str, number: T, other: T) -> Result<(), Difference> {
+/// Compares two numbers.
+pub fn same<T: Into<u64>>(place: &str, number: T, other: T) -> Result<(), Difference> {
     let (first, second) = (number.into(), other.into());
     if first == second {
         return Ok(());

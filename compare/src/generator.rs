@@ -1,6 +1,6 @@
 //! Generates scenarios, family by family.
 
-mod damage;
+pub mod damage;
 mod landmarks;
 pub mod list;
 pub mod part;
@@ -32,7 +32,7 @@ pub fn families() -> [Family; 13] {
         family("bad descriptions", 1600, bad_descriptions),
         family("answer slots", 1800, slots),
         family("limits", 2400, limits),
-        family("longest lists", 400, longest),
+        family("long lists", 400, long),
         family("lists too long", 80, too_long),
     ]
 }
@@ -163,17 +163,18 @@ fn slots(random: &mut Random, _: u32) -> Scenario {
 fn limits(random: &mut Random, _: u32) -> Scenario {
     let mut scenario = listed(random, &TAME);
     let count = scenario.events.len() / 3;
-    // The last but one is 0 to whoever keeps only the low 32 bits.
     let within = random.index(count + 1);
     let below = count.saturating_sub(1);
+    // The last but one is 0 to whoever keeps only the low 32 bits.
     scenario.limit = random.pick(&[0, 1, within, below, count, count + 1, 1 << 32, usize::MAX]);
     scenario
 }
 
-fn longest(random: &mut Random, _: u32) -> Scenario {
+fn long(random: &mut Random, _: u32) -> Scenario {
     let size = size(random);
     let part = part(random, size);
-    let count = random.pick(&[4095, 4096]);
+    let between = 800 + random.index(3295);
+    let count = random.pick(&[between, 4095, 4096]);
     with_list(random, part, count, &TAME)
 }
 

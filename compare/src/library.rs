@@ -50,7 +50,10 @@ extern "C" {
     ) -> u32;
 }
 
-/// Answers at most `limit` events of a list, two slots for each.
+/// Answers at most `limit` events of a list, three numbers each, with two slots for each.
+///
+/// The answer is 0 with the count, or 7, 8, 9 with count 0 and nothing written; see
+/// `include/pinionclay.h`.
 pub fn run(
     description: &DescriptionNumbers,
     state: &mut StateNumbers,
@@ -83,6 +86,9 @@ pub fn run(
 }
 
 /// Answers one event: its kind and its numbers A and B.
+///
+/// The answer is 0 to 6 by the event's rule, or 7, 8 with value 0 and nothing written; see
+/// `include/pinionclay.h`.
 pub fn step(
     description: &DescriptionNumbers,
     state: &mut StateNumbers,

@@ -4,7 +4,7 @@ mod answer;
 mod device;
 mod event;
 mod fuse;
-mod layout;
+pub mod layout;
 #[cfg(test)]
 mod tests;
 
@@ -15,7 +15,7 @@ use event::Event;
 use layout::Layout;
 
 /// The most events a list may hold.
-const LONGEST_LIST: usize = 4096;
+pub const LONGEST_LIST: usize = 4096;
 
 /// Answers at most `limit` events of a list, two slots for each.
 pub fn run(
@@ -70,12 +70,17 @@ fn admit_list(
     slots: &[u32],
 ) -> Result<Layout, Refusal> {
     let layout = Layout::new(description, general, auxiliary)?;
-    let count = events.len() / 3;
-    if events.len() % 3 == 0 && count <= LONGEST_LIST && slots.len() >= 2 * count {
+    if list_faults(events.len(), slots.len()) == [false; 3] {
         Ok(layout)
     } else {
         Err(Refusal::BadList)
     }
+}
+
+/// What is wrong with a list: numbers left over, too many events, too few slots.
+pub fn list_faults(numbers: usize, slots: usize) -> [bool; 3] {
+    let count = numbers / 3;
+    [numbers % 3 != 0, count > LONGEST_LIST, slots < 2 * count]
 }
 
 fn refused_run(refusal: Refusal) -> RunReport {

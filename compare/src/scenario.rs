@@ -24,6 +24,19 @@ pub const NEW_STATE: StateNumbers = {
     state
 };
 
+/// The words of the vector space, which lie in the GS array but not in GS.
+pub const VECTOR_SPACE_WORDS: usize = 256;
+
+/// The first address after AS.
+const AUXILIARY_END: usize = 0x80_0000;
+
+/// A segment that code runs from.
+#[derive(Clone, Copy, Debug, PartialEq, Eq)]
+pub enum Segment {
+    General,
+    Auxiliary,
+}
+
 /// A part, its state and flash, and a list for it.
 #[derive(Clone, Debug, PartialEq, Eq)]
 pub struct Scenario {
@@ -60,11 +73,25 @@ impl Scenario {
         )
     }
 
-    /// Answer slots as the caller lends them: full of numbers that no answer writes.
-    pub fn lent_slots(&self) -> Vec<u32> {
-        (0..self.slots)
-            .map(|index| 0xA5A5_0000 ^ index as u32)
-            .collect()
+    /// True where the address lies in the segment; the vector space lies in neither.
+    pub fn holds(&self, segment: Segment, address: u32) -> bool {
+        let addresses = match segment {
+            Segment::General => 2 * VECTOR_SPACE_WORDS..2 * self.general.len(),
+            Segment::Auxiliary => AUXILIARY_END - 2 * self.auxiliary.len()..AUXILIARY_END,
+        };
+        addresses.contains(&(address as usize))
+    }
+
+    /// The segment that code at this PC runs from; none where PC is not executable.
+    pub fn origin(&self, counter: u32) -> Option<Segment> {
+        match counter {
+            // The Reset instruction lies in the vector space and counts as GS.
+            0 => Some(Segment::General),
+            _ if counter % 2 != 0 => None,
+            _ if self.holds(Segment::General, counter) => Some(Segment::General),
+            _ if self.holds(Segment::Auxiliary, counter) => Some(Segment::Auxiliary),
+            _ => None,
+        }
     }
 
     /// The list's events, three numbers each; numbers left over belong to none.
@@ -73,4 +100,9 @@ impl Scenario {
             .chunks_exact(3)
             .map(|event| [event[0], event[1], event[2]])
     }
+}
+
+/// Answer slots as the caller lends them: full of numbers that no answer writes.
+pub fn lent_slots(slots: usize) -> Vec<u32> {
+    (0..slots).map(|index| 0xA5A5_0000 ^ index as u32).collect()
 }

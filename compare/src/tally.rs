@@ -1,10 +1,16 @@
 //! Counts what was reached, so that a comparison which reaches too little fails.
 
+mod runs;
+
 use crate::comparison::{RunRecord, StepRecord};
 use crate::scenario::Scenario;
+use runs::Runs;
 use std::fmt;
 
-/// Counts by kind, then by answer; row 0 stands for all kinds but 1 to 12.
+/// Traps that come before the event's own rule, as PC is not executable; after answers 0 to 8.
+const STRAY: usize = 9;
+
+/// Counts by kind, then by answer, or `STRAY`; row 0 stands for all kinds but 1 to 12.
 type Table = [[u64; 10]; 13];
 
 /// The answers that each kind's own rule must reach, from 1 on: with PC below AS, then in AS.
@@ -32,54 +38,48 @@ const BETWEEN_SEGMENTS: u32 = 0x40_0000;
 /// Everything both models agreed on.
 #[derive(Default)]
 pub struct Tally {
-    runs: [u64; 10],
+    runs: Runs,
     events_in_runs: Table,
     steps_below: Table,
     steps_above: Table,
 }
 
 impl Tally {
-    /// Counts a run and the events it answered.
-    pub fn add_run(&mut self, scenario: &Scenario, record: &RunRecord) {
-        self.runs[record.report.answer as usize] += 1;
-        let slots = record.slots.chunks_exact(2).take(record.report.count);
-        for (event, slot) in scenario.triples().zip(slots) {
-            self.events_in_runs[row(event[0])][slot[0] as usize] += 1;
+    /// Counts a run and the steps through the same list, which say where the run's PC was.
+    pub fn add(&mut self, scenario: &Scenario, run: &RunRecord, steps: &[StepRecord]) {
+        self.runs.add(scenario, run);
+        let slots = run.slots.chunks_exact(2).take(run.report.count);
+        for (step, slot) in steps.iter().zip(slots) {
+            count(&mut self.events_in_runs, step, slot[0]);
         }
-    }
-
-    /// Counts the steps through a list.
-    pub fn add_steps(&mut self, records: &[StepRecord]) {
-        for record in records {
-            let table = if record.counter < BETWEEN_SEGMENTS {
+        for step in steps {
+            let table = if step.counter < BETWEEN_SEGMENTS {
                 &mut self.steps_below
             } else {
                 &mut self.steps_above
             };
-            table[row(record.event[0])][record.report.answer as usize] += 1;
+            count(table, step, step.report.answer);
         }
     }
 
     /// Every outcome that had to be reached and was not.
     pub fn missing(&self) -> Vec<String> {
-        let mut missing = Vec::new();
-        for answer in [0, 7, 8, 9] {
-            if self.runs[answer] == 0 {
-                missing.push(format!("a run with answer {answer} of its own"));
-            }
-        }
+        let mut missing = self.runs.missing();
         for kind in 0..=POWER_ON {
             let [below, above] = own_answers(kind);
             let everywhere = shared_answers(kind);
             let in_steps = [everywhere, &[7, 8]].concat();
+            let mut in_runs = [below, above, everywhere].concat();
+            in_runs.sort_unstable();
+            in_runs.dedup();
             let tables = [
-                (&self.events_in_runs, [below, above, everywhere].concat()),
+                (&self.events_in_runs, in_runs),
                 (&self.steps_below, [below, &in_steps].concat()),
                 (&self.steps_above, [above, &in_steps].concat()),
             ];
             for ((table, required), name) in tables.iter().zip(TABLE_NAMES) {
-                for answer in required.iter().filter(|answer| table[kind][**answer] == 0) {
-                    missing.push(format!("{name}: kind {kind} with answer {answer}"));
+                for column in required.iter().filter(|column| table[kind][**column] == 0) {
+                    missing.push(format!("{name}: kind {kind} with {}", column_name(*column)));
                 }
             }
         }
@@ -105,38 +105,47 @@ fn own_answers(kind: usize) -> [&'static [usize]; 2] {
 fn shared_answers(kind: usize) -> &'static [usize] {
     match kind {
         0 | POWER_ON => &[6],
-        _ => &[4, 5, 6],
+        _ => &[5, 6, STRAY],
     }
 }
 
-fn row(kind: u32) -> usize {
-    match kind {
-        1..=12 => kind as usize,
+/// Counts one answer to a step's event.
+fn count(table: &mut Table, step: &StepRecord, answer: u32) {
+    let row = match step.event[0] {
+        kind @ 1..=12 => kind as usize,
         _ => 0,
-    }
+    };
+    let column = match answer {
+        4 if !step.executable => STRAY,
+        _ => answer as usize,
+    };
+    table[row][column] += 1;
 }
 
 impl fmt::Display for Tally {
     fn fmt(&self, formatter: &mut fmt::Formatter) -> fmt::Result {
-        write!(
-            formatter,
-            "runs by their own answer, 0 to 9: {:?}",
-            self.runs
-        )?;
+        write!(formatter, "{}", self.runs)?;
         let tables = [&self.events_in_runs, &self.steps_below, &self.steps_above];
         for (table, name) in tables.iter().zip(TABLE_NAMES) {
             write!(formatter, "\n\n{name:21}")?;
-            for answer in 0..=8 {
-                write!(formatter, " answer {answer}")?;
+            for column in 0..=STRAY {
+                write!(formatter, "{:>9}", column_name(column))?;
             }
             for (kind, counts) in table.iter().enumerate() {
                 write!(formatter, "\n{:21}", kind_name(kind))?;
-                for count in &counts[..=8] {
+                for count in counts {
                     write!(formatter, "{count:9}")?;
                 }
             }
         }
         Ok(())
+    }
+}
+
+fn column_name(column: usize) -> String {
+    match column {
+        STRAY => "stray PC".to_string(),
+        _ => format!("answer {column}"),
     }
 }
 

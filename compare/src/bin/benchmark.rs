@@ -2,7 +2,7 @@
 
 use compare::generator::list::{extend, TAME};
 use compare::random::Random;
-use compare::scenario::{Scenario, AUXILIARY_FUSE, BLANK, COUNTER, GENERAL_FUSE};
+use compare::scenario::{lent_slots, Scenario, AUXILIARY_FUSE, BLANK, COUNTER, GENERAL_FUSE};
 use compare::subject::{Subject, LIBRARY, MODEL};
 use std::time::{Duration, Instant};
 
@@ -25,7 +25,7 @@ fn main() {
     for (name, scenario, filled) in workloads() {
         checksum += report(name, &scenario, filled);
     }
-    println!("checksum of all answers: {checksum:#x}");
+    println!("checksum of all answers and fills: {checksum:#x}");
 }
 
 /// Each list with its name and the words that one of its events fills, 0 for none.
@@ -90,11 +90,13 @@ fn tables() -> Scenario {
 
 /// Rows all over GS and AS.
 fn rows() -> Scenario {
+    let [page_words, general_pages, auxiliary_pages, _, _] = BENCH;
     let mut random = Random::new(6);
     let mut events = Vec::new();
     for _ in 0..EVENTS {
-        let start = random.pick(&[0x00_0400, 0x7F_F000]);
-        events.push([6, start + 2 * random.below(2048), 0]);
+        let (start, pages) =
+            random.pick(&[(0x00_0000, general_pages), (0x7F_F000, auxiliary_pages)]);
+        events.push([6, start + 2 * random.below(page_words * pages), 0]);
     }
     repeated(BENCH, 0x400, &events)
 }
@@ -121,7 +123,7 @@ fn mixed() -> Scenario {
     scenario
 }
 
-/// Measures one list and prints its line; returns the sum of all answers.
+/// Measures one list and prints its line; returns the sum of all answers and fills.
 fn report(name: &str, scenario: &Scenario, filled: usize) -> u64 {
     let mut best = [Duration::MAX; 3];
     let mut checksum = 0;
@@ -151,7 +153,7 @@ fn measure(subject: &Subject, scenario: &Scenario) -> (Duration, u64) {
     let mut state = scenario.state;
     let mut general = scenario.general.clone();
     let mut auxiliary = scenario.auxiliary.clone();
-    let mut slots = scenario.lent_slots();
+    let mut slots = lent_slots(scenario.slots);
     let start = Instant::now();
     let report = (subject.run)(
         &scenario.description,

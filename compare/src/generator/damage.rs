@@ -21,24 +21,29 @@ const BOUNDS: [u32; 14] = [
     0xFFFF_FFFF,
 ];
 
-/// Page sizes of no part; the last has the right low byte.
+/// Page sizes of no part; the last has the right low 16 bits.
 const PAGE_WORDS: [u32; 8] = [0, 1, 256, 511, 513, 768, 2048, 0x1_0200];
 
-/// Page counts of no part; the last makes 32-bit products come out right.
-const PAGES: [u32; 6] = [0, 17, 65, 128, 0xFFFF_FFFF, 0x80_0001];
+/// GS page counts of no part; the last makes 32-bit products come out right.
+const GENERAL_PAGES: [u32; 5] = [0, 65, 128, 0xFFFF_FFFF, 0x80_0001];
 
-/// Auxiliary vectors of no part, or of the other sort of part.
-const VECTORS: [u32; 9] = [
+/// AS page counts of no part; the last is as in GS.
+const AUXILIARY_PAGES: [u32; 5] = [17, 64, 128, 0xFFFF_FFFF, 0x80_0001];
+
+/// Auxiliary vectors of no part that has AS; the last has the right low 24 bits.
+const VECTORS_WITH_AUXILIARY: [u32; 8] = [
     0,
     1,
     2,
     0x7F_FFBE,
     0x7F_FFC1,
-    0x7F_FFEA,
     0x7F_FFFF,
     0x80_0000,
     0x107F_FFEA,
 ];
+
+/// Auxiliary vectors of no part without AS; the last has the right low 24 bits.
+const VECTORS_WITHOUT_AUXILIARY: [u32; 6] = [1, 2, 0x7F_FFC0, 0x7F_FFEA, 0xFFFF_FFFF, 0x100_0000];
 
 /// Gives some events a kind that is malformed, or a kind with numbers meant for another.
 pub fn reserve_kinds(random: &mut Random, events: &mut [u32]) {
@@ -65,6 +70,28 @@ pub fn change_numbers(random: &mut Random, events: &mut [u32]) {
             1 => *number | 1,
             _ => random.pick(&BOUNDS),
         };
+    }
+}
+
+/// Puts malformed copies of some events before them; the list goes as it would without them.
+pub fn add_malformed(random: &mut Random, events: &mut Vec<u32>) {
+    let mut longer = Vec::new();
+    for event in events.chunks_exact(3) {
+        if random.once_in(12) {
+            longer.extend(malformed(random, [event[0], event[1], event[2]]));
+        }
+        longer.extend(event);
+    }
+    *events = longer;
+}
+
+/// The event with one number that no event of its kind may have.
+fn malformed(random: &mut Random, [kind, first, second]: [u32; 3]) -> [u32; 3] {
+    match random.below(4) {
+        0 => [0, first, second],
+        1 => [kind + 13, first, second],
+        2 => [kind, first | 0x8000_0001, second],
+        _ => [kind, first, second | 0x100_0000],
     }
 }
 
@@ -103,9 +130,10 @@ pub fn change_description(random: &mut Random, scenario: &mut Scenario) {
     let description = &mut scenario.description;
     match random.below(4) {
         0 => description[0] = random.pick(&PAGE_WORDS),
-        1 => description[1] = random.pick(&PAGES),
-        2 => description[2] = random.pick(&PAGES),
-        _ => description[4] = random.pick(&VECTORS),
+        1 => description[1] = random.pick(&GENERAL_PAGES),
+        2 => description[2] = random.pick(&AUXILIARY_PAGES),
+        _ if description[2] == 0 => description[4] = random.pick(&VECTORS_WITHOUT_AUXILIARY),
+        _ => description[4] = random.pick(&VECTORS_WITH_AUXILIARY),
     }
     if random.once_in(2) {
         let [page_words, general_pages, auxiliary_pages, _, _] = *description;

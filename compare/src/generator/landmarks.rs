@@ -17,7 +17,7 @@ const EDGES: [u32; 20] = [
     0x7F_FFFC, 0x7F_FFFE, 0x80_0000, 0xFF_FFFE,
 ];
 
-/// Numbers that no program counter may hold, or that lie beyond the last address.
+/// Odd counters, and counters beyond the last address.
 const STRAY_COUNTERS: [u32; 8] = [
     0x00_0001,
     0x00_0201,

@@ -28,30 +28,43 @@ pub struct Style {
     endings_once_in: u32,
     /// The kinds to choose from.
     kinds: &'static [u32],
+    /// The kinds among them that are not chosen after all.
+    left_out: &'static [u32],
+}
+
+impl Style {
+    /// The same style without some kinds.
+    pub fn without(self, left_out: &'static [u32]) -> Style {
+        Style { left_out, ..self }
+    }
 }
 
 /// Never a security reset or address trap where another event can be found.
 pub const TAME: Style = Style {
     endings_once_in: 0,
     kinds: &KINDS,
+    left_out: &[],
 };
 
 /// Security resets and address traps now and then.
 pub const MIXED: Style = Style {
     endings_once_in: 24,
     kinds: &KINDS,
+    left_out: &[],
 };
 
 /// Whatever comes.
 pub const WILD: Style = Style {
     endings_once_in: 1,
     kinds: &KINDS,
+    left_out: &[],
 };
 
 /// Whatever comes of the kinds whose answers hang on the fuse bytes.
 pub const PROTECTED: Style = Style {
     endings_once_in: 4,
     kinds: &PROTECTED_KINDS,
+    left_out: &[],
 };
 
 /// One well-formed event of the given kind.
@@ -117,7 +130,10 @@ impl Walk {
         if stopped && random.once_in(2) {
             return POWER_ON;
         }
-        let kind = random.pick(style.kinds);
+        let mut kind = random.pick(style.kinds);
+        while style.left_out.contains(&kind) {
+            kind = random.pick(style.kinds);
+        }
         event(random, &self.landmarks, kind)
     }
 

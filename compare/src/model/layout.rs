@@ -40,22 +40,20 @@ impl Layout {
         general: &[u32],
         auxiliary: &[u32],
     ) -> Result<Layout, Refusal> {
-        if !is_valid(description) {
+        if description_faults(description) != [false; 4] {
             return Err(Refusal::BadDescription);
         }
-        let [page_words, general_pages, auxiliary_pages, keys, auxiliary_vector] = *description;
-        let general_words = general_pages * page_words;
-        let auxiliary_words = auxiliary_pages * page_words;
-        if general.len() != general_words as usize || auxiliary.len() != auxiliary_words as usize {
+        if length_faults(description, general.len(), auxiliary.len()) != [false; 2] {
             return Err(Refusal::WrongFlashLength);
         }
+        let [page_words, _, auxiliary_pages, keys, auxiliary_vector] = *description;
         Ok(Layout {
             page_words: page_words as usize,
             has_auxiliary: auxiliary_pages != 0,
             keys: keys != 0,
             auxiliary_vector,
-            general_end: 2 * general_words,
-            auxiliary_start: AUXILIARY_END - 2 * auxiliary_words,
+            general_end: 2 * general.len() as u32,
+            auxiliary_start: AUXILIARY_END - 2 * auxiliary.len() as u32,
         })
     }
 
@@ -74,15 +72,31 @@ impl Layout {
     }
 }
 
-fn is_valid(description: &DescriptionNumbers) -> bool {
+/// Which numbers of a description are bad: page words, GS pages, AS pages, auxiliary vector.
+pub fn description_faults(description: &DescriptionNumbers) -> [bool; 4] {
     let [page_words, general_pages, auxiliary_pages, _, auxiliary_vector] = *description;
     let vector_is_valid = if auxiliary_pages == 0 {
         auxiliary_vector == 0
     } else {
         auxiliary_vector % 2 == 0 && (ENTRY_START..AUXILIARY_END).contains(&auxiliary_vector)
     };
-    (page_words == 512 || page_words == 1024)
-        && (1..=64).contains(&general_pages)
-        && auxiliary_pages <= 16
-        && vector_is_valid
+    [
+        page_words != 512 && page_words != 1024,
+        !(1..=64).contains(&general_pages),
+        auxiliary_pages > 16,
+        !vector_is_valid,
+    ]
+}
+
+/// Which flash arrays of a valid description have the wrong length: GS, AS.
+pub fn length_faults(
+    description: &DescriptionNumbers,
+    general: usize,
+    auxiliary: usize,
+) -> [bool; 2] {
+    let [page_words, general_pages, auxiliary_pages, _, _] = *description;
+    [
+        general != (general_pages * page_words) as usize,
+        auxiliary != (auxiliary_pages * page_words) as usize,
+    ]
 }
