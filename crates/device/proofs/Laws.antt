@@ -21,7 +21,7 @@ use Rattle.permission.specs.declared.Origin.{Origin}
 use Rattle.measure.specs.Measures.{even}
 use Rattle.part.specs.Descriptions.{goodPage, goodGeneral, goodAuxiliary, goodVector, valid, generalWords, auxiliaryWords}
 use Rattle.device.specs.CarryingOut.{withFuse}
-use Rattle.device.specs.Internals.{registersOf, stateOf, wordOrZero}
+use Rattle.device.specs.Internals.{registersOf, stateFrom, wordOrZero}
 use Rattle.device.specs.declared.Registers.{Registers}
 use Rattle.part.specs.declared.FlashArray.{FlashArray}
 use Rattle.part.specs.declared.FlashArray.the-variants.{GeneralArray, AuxiliaryArray}
@@ -128,7 +128,7 @@ no-vector flash vector h =
 
 -- a fuse byte is stored beside the latches
 pub fuse-beside : (r : Registers) (latches : List ℕ) (array : FlashArray) (byte : ℕ)
-    → stateOf (registersOf (withFuse (stateOf r []) array byte)) latches ≡ withFuse (stateOf r latches) array byte
+    → stateFrom (registersOf (withFuse (stateFrom r []) array byte)) latches ≡ withFuse (stateFrom r latches) array byte
 fuse-beside r latches GeneralArray byte = refl
 fuse-beside r latches AuxiliaryArray byte = refl
 

@@ -17,8 +17,8 @@ use Rattle.flash.specs.declared.WordFound.the-variants.{Word, NoWord}
 abbrev pub registersOf : State → Registers
 registersOf s = record { pc = s .pc; iopuwr = s .iopuwr; stopped = s .stopped; fgs = s .fgs; fas = s .fas }
 
-abbrev pub stateOf : Registers → List ℕ → State
-stateOf r latches =
+abbrev pub stateFrom : Registers → List ℕ → State
+stateFrom r latches =
     record { pc = r .pc; iopuwr = r .iopuwr; stopped = r .stopped; fgs = r .fgs; fas = r .fas; latches = latches }
 
 -- a word that was looked for

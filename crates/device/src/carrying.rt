@@ -13,7 +13,7 @@ ghost use mathlib.Core.Path.{_≡_};
 ghost use mathlib.Core.List.{[]};
 ghost use lib.ListN.{set};
 ghost use Rattle.flash.specs.Operations.{readWord};
-ghost use Rattle.device.specs.Internals.{registersOf, stateOf};
+ghost use Rattle.device.specs.Internals.{registersOf, stateFrom};
 ghost use Rattle.device.specs.CarryingOut.{
   leaves,
   blankLatches,
@@ -37,7 +37,7 @@ ghost use Rattle.device.specs.CarryingOut.{
 const CLEARED: u8 = 0x03;
 
 fn with_pc(registers: Registers, pc: ProgramAddress) -> Registers
-    ensures { λ r. ⌜ r ≡ registersOf (withPc (stateOf registers []) pc) ⌝ }
+    ensures { λ r. ⌜ r ≡ registersOf (withPc (stateFrom registers []) pc) ⌝ }
 {
     Registers {
         pc,
@@ -49,7 +49,7 @@ fn with_pc(registers: Registers, pc: ProgramAddress) -> Registers
 }
 
 fn with_fuse(registers: Registers, array: FlashArray, byte: u8) -> Registers
-    ensures { λ r. ⌜ r ≡ registersOf (withFuse (stateOf registers []) array byte) ⌝ }
+    ensures { λ r. ⌜ r ≡ registersOf (withFuse (stateFrom registers []) array byte) ⌝ }
 {
     let mut changed = registers;
     match array {
@@ -65,7 +65,7 @@ fn with_fuse(registers: Registers, array: FlashArray, byte: u8) -> Registers
 }
 
 fn trapped(registers: Registers) -> Registers
-    ensures { λ r. ⌜ r ≡ registersOf (trappedOf (stateOf registers [])) ⌝ }
+    ensures { λ r. ⌜ r ≡ registersOf (trappedOf (stateFrom registers [])) ⌝ }
 {
     let mut changed = registers;
     changed.stopped = true;
@@ -88,7 +88,7 @@ fn blank(latches: &mut [u32; 64])
 }
 
 fn reset_by_security(registers: Registers, latches: &mut [u32; 64]) -> Registers
-    ensures { λ r. ⌜ stateOf r (now (latches .exit)) ≡ resetBySecurity (stateOf registers (now (latches .entry))) ⌝ }
+    ensures { λ r. ⌜ stateFrom r (now (latches .exit)) ≡ resetBySecurity (stateFrom registers (now (latches .entry))) ⌝ }
 {
     blank(latches);
     Registers {
@@ -101,7 +101,7 @@ fn reset_by_security(registers: Registers, latches: &mut [u32; 64]) -> Registers
 }
 
 fn powered_on(registers: Registers, latches: &mut [u32; 64]) -> Registers
-    ensures { λ r. ⌜ stateOf r (now (latches .exit)) ≡ poweredOn (stateOf registers (now (latches .entry))) ⌝ }
+    ensures { λ r. ⌜ stateFrom r (now (latches .exit)) ≡ poweredOn (stateFrom registers (now (latches .entry))) ⌝ }
 {
     blank(latches);
     Registers {
@@ -173,8 +173,8 @@ fn program(
     general: &mut [u32],
     auxiliary: &mut [u32],
 ) -> Answer
-    ensures { λ r. ⌜ ((registers : Registers) → leaves r (stateOf registers (now (latches .exit))) (now (general .exit)) (now (auxiliary .exit))
-        ≡ programsOf array index (stateOf registers (now (latches .entry))) (now (general .entry)) (now (auxiliary .entry))) ⌝ }
+    ensures { λ r. ⌜ ((registers : Registers) → leaves r (stateFrom registers (now (latches .exit))) (now (general .exit)) (now (auxiliary .exit))
+        ≡ programsOf array index (stateFrom registers (now (latches .entry))) (now (general .entry)) (now (auxiliary .entry))) ⌝ }
 {
     match array {
         FlashArray::GeneralArray => {
@@ -233,8 +233,8 @@ pub(crate) fn carry_out(
     general: &mut [u32],
     auxiliary: &mut [u32],
 ) -> Carried
-    ensures { λ r. ⌜ leaves (r .answer) (stateOf (r .registers) (now (latches .exit))) (now (general .exit)) (now (auxiliary .exit))
-        ≡ carryOut page (stateOf registers (now (latches .entry))) (now (general .entry)) (now (auxiliary .entry)) decision ⌝ }
+    ensures { λ r. ⌜ leaves (r .answer) (stateFrom (r .registers) (now (latches .exit))) (now (general .exit)) (now (auxiliary .exit))
+        ≡ carryOut page (stateFrom registers (now (latches .entry))) (now (general .entry)) (now (auxiliary .entry)) decision ⌝ }
 {
     match decision {
         Decision::Refuse(answer) => carried(answer, registers),

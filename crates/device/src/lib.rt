@@ -7,7 +7,7 @@ ghost use mathlib.Core.Bool.{true};
 ghost use mathlib.Core.Path.{_≡_};
 ghost use Rattle.part.specs.Descriptions.{valid};
 ghost use Rattle.device.specs.CarryingOut.{leaves};
-ghost use Rattle.device.specs.Internals.{registersOf, stateOf};
+ghost use Rattle.device.specs.Internals.{registersOf, stateFrom};
 ghost use Rattle.device.specs.OneEvent.{eventOn};
 ghost use Rattle.device.specs.Promises.{
   NewPromise,
@@ -69,7 +69,7 @@ pub enum Decision {
 }
 
 // A state but for its latches.
-pub struct Registers {
+pub(crate) struct Registers {
     pub pc: ProgramAddress,
     pub iopuwr: bool,
     pub stopped: bool,
@@ -78,7 +78,7 @@ pub struct Registers {
 }
 
 // What carrying out a decision leaves besides the flash and the latches.
-pub struct Carried {
+pub(crate) struct Carried {
     pub answer: Answer,
     pub registers: Registers,
 }
@@ -226,7 +226,7 @@ fn registers_of(state: State) -> Registers
 }
 
 fn joined(registers: Registers, latches: [u32; 64]) -> State
-    ensures { λ r. ⌜ r ≡ stateOf registers latches ⌝ }
+    ensures { λ r. ⌜ r ≡ stateFrom registers latches ⌝ }
 {
     let pc = registers.pc;
     State {
@@ -249,8 +249,8 @@ fn happens(
     event: Event,
 ) -> Carried
     requires { ⌜ valid description ≡ true ⌝ }
-    ensures { λ r. ⌜ leaves (r .answer) (stateOf (r .registers) (now (latches .exit))) (now (general .exit)) (now (auxiliary .exit))
-        ≡ eventOn description (stateOf registers (now (latches .entry))) (now (general .entry)) (now (auxiliary .entry)) event ⌝ }
+    ensures { λ r. ⌜ leaves (r .answer) (stateFrom (r .registers) (now (latches .exit))) (now (general .exit)) (now (auxiliary .exit))
+        ≡ eventOn description (stateFrom registers (now (latches .entry))) (now (general .entry)) (now (auxiliary .entry)) event ⌝ }
 {
     let word = vectors::vector_word(general, event);
     let pc = registers.pc;

@@ -13,7 +13,7 @@ ghost use lib.ListN.{length};
 ghost use Rattle.part.specs.Descriptions.{valid};
 ghost use Rattle.device.specs.CarryingOut.{leaves};
 ghost use Rattle.device.specs.Lists.{decodedOn, endsRun, traceOf, ranTo, told, goodList};
-ghost use Rattle.device.specs.Internals.{stateOf, eventAt, stored};
+ghost use Rattle.device.specs.Internals.{stateFrom, eventAt, stored};
 
 // The most events of a list.
 const MOST_EVENTS: usize = 4096;
@@ -50,8 +50,8 @@ fn decoded(
     decoded: Decoded,
 ) -> Carried
     requires { ⌜ valid description ≡ true ⌝ }
-    ensures { λ r. ⌜ leaves (r .answer) (stateOf (r .registers) (now (latches .exit))) (now (general .exit)) (now (auxiliary .exit))
-        ≡ decodedOn description (stateOf registers (now (latches .entry))) (now (general .entry)) (now (auxiliary .entry)) decoded ⌝ }
+    ensures { λ r. ⌜ leaves (r .answer) (stateFrom (r .registers) (now (latches .exit))) (now (general .exit)) (now (auxiliary .exit))
+        ≡ decodedOn description (stateFrom registers (now (latches .entry))) (now (general .entry)) (now (auxiliary .entry)) decoded ⌝ }
 {
     match decoded {
         Decoded::Malformed => Carried {
@@ -98,8 +98,8 @@ fn listed(
     index: usize,
 ) -> Carried
     requires { ⌜ (valid description ≡ true) × (3 * index + 2 < length (now list)) × (2 * index + 1 < length (now slots)) ⌝ }
-    ensures { λ r. ⌜ leaves (r .answer) (stateOf (r .registers) (now (latches .exit))) (now (general .exit)) (now (auxiliary .exit))
-        ≡ decodedOn description (stateOf registers (now (latches .entry))) (now (general .entry)) (now (auxiliary .entry)) (eventAt (now (list .entry)) index) ⌝
+    ensures { λ r. ⌜ leaves (r .answer) (stateFrom (r .registers) (now (latches .exit))) (now (general .exit)) (now (auxiliary .exit))
+        ≡ decodedOn description (stateFrom registers (now (latches .entry))) (now (general .entry)) (now (auxiliary .entry)) (eventAt (now (list .entry)) index) ⌝
         ∗ ⌜ now (slots .exit) ≡ stored (now (slots .entry)) index (r .answer) ⌝ }
 {
     let event = event_at(list, index);

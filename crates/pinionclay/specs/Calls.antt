@@ -28,16 +28,13 @@ pub record RunNumbers : Type 0 where
   pub slots : List ℕ
   pub count : ℕ
 
+abbrev pub runLeaves : ℕ → List ℕ → List ℕ → List ℕ → List ℕ → ℕ → RunNumbers
+runLeaves number state g x slots count =
+    record { number = number; state = state; general = g; auxiliary = x; slots = slots; count = count }
+
 abbrev pub runNumbers : List ℕ → RunLeft → RunNumbers
 runNumbers numbers l =
-    record {
-      number = l .number;
-      state = written (l .number) numbers (l .state);
-      general = l .general;
-      auxiliary = l .auxiliary;
-      slots = l .slots;
-      count = l .count;
-    }
+    runLeaves (l .number) (written (l .number) numbers (l .state)) (l .general) (l .auxiliary) (l .slots) (l .count)
 
 -- the device's own run, over numbers
 abbrev pub pinionclayRun : List ℕ → List ℕ → List ℕ → List ℕ → List ℕ → ℕ → List ℕ → RunNumbers
@@ -52,15 +49,12 @@ pub record StepNumbers : Type 0 where
   pub auxiliary : List ℕ
   pub value : ℕ
 
+abbrev pub stepLeaves : ℕ → List ℕ → List ℕ → List ℕ → ℕ → StepNumbers
+stepLeaves number state g x value = record { number = number; state = state; general = g; auxiliary = x; value = value }
+
 abbrev pub stepNumbers : List ℕ → Left → StepNumbers
 stepNumbers numbers l =
-    record {
-      number = l .number;
-      state = written (l .number) numbers (l .state);
-      general = l .general;
-      auxiliary = l .auxiliary;
-      value = l .value;
-    }
+    stepLeaves (l .number) (written (l .number) numbers (l .state)) (l .general) (l .auxiliary) (l .value)
 
 -- "Order for one event: 7, 8, 6", here for the event that three numbers say, and then the rest
 unfoldable pub stepOf : Description → State → List ℕ → List ℕ → ℕ → ℕ → ℕ → Left
@@ -69,6 +63,7 @@ stepOf d s g x kind a b =
     else if not (sized d (length g) (length x)) then leaves WrongFlashLength s g x
     else decodedOn d s g x (decode kind a b)
 
+-- that event on the device, over numbers
 abbrev pub pinionclayStep : List ℕ → List ℕ → List ℕ → List ℕ → ℕ → ℕ → ℕ → StepNumbers
 pinionclayStep description numbers g x kind a b =
     stepNumbers numbers (stepOf (descriptionOf description) (stateOf numbers) g x kind a b)

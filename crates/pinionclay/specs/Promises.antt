@@ -2,16 +2,18 @@
 use mathlib.Core.Path.{_≡_}
 use mathlib.Core.List.{List}
 use Prim.Native.Nat.{ℕ}
-use Rattle.pinionclay.specs.Calls.{RunNumbers, pinionclayRun, StepNumbers, pinionclayStep}
+use Rattle.pinionclay.specs.Calls.{runLeaves, pinionclayRun, stepLeaves, pinionclayStep}
 
+-- the result, the state, both arrays, the slots and the count at exit
 abbrev pub PinionclayRunPromise :
     List ℕ → List ℕ → List ℕ → List ℕ → List ℕ → ℕ → List ℕ → ℕ → List ℕ → List ℕ → List ℕ → List ℕ → ℕ → Type 0
 PinionclayRunPromise description s g x events limit slots result state general auxiliary exit count =
-    record { number = result; state = state; general = general; auxiliary = auxiliary; slots = exit; count = count }
+    runLeaves result state general auxiliary exit count
     ≡ pinionclayRun description s g x events limit slots
 
+-- the result, the state, both arrays and the value at exit
 abbrev pub PinionclayStepPromise :
     List ℕ → List ℕ → List ℕ → List ℕ → ℕ → ℕ → ℕ → ℕ → List ℕ → List ℕ → List ℕ → ℕ → Type 0
 PinionclayStepPromise description s g x kind a b result state general auxiliary value =
-    record { number = result; state = state; general = general; auxiliary = auxiliary; value = value }
+    stepLeaves result state general auxiliary value
     ≡ pinionclayStep description s g x kind a b

@@ -1,7 +1,7 @@
 -- `device::carrying::carry_out` meets its contract: each decision in its own way. Assumes nothing.
 use mathlib.Core.Path.{ap}
 use Rattle.device.specs.CarryingOut.{leaves, carryOut}
-use Rattle.device.specs.Internals.{stateOf}
+use Rattle.device.specs.Internals.{stateFrom}
 use Rattle.device.specs.declared.State.{State}
 use Rattle.device.specs.declared.Answer.the-variants.{Done, SecurityReset}
 use Rattle.device.proofs.Laws.{fuse-beside}
@@ -173,7 +173,7 @@ same-length-6 c = search needs
 
 returns-9 : tie.Need-returns-9
 unfolding carryOut
-returns-9 c = rw (c .before .before .before .before .before .before .before .before .before .decision6 .given .1, c .carried9 .ensures) (c .before .before .before .before .before .erase .ensures (stateOf (c .before .before .before .before .before .before .before .before .before .before .before .before .before .args .registers) (c .before .before .before .before .before .before .before .before .before .before .before .before .before .args .latches .now)))
+returns-9 c = rw (c .before .before .before .before .before .before .before .before .before .decision6 .given .1, c .carried9 .ensures) (c .before .before .before .before .before .erase .ensures (stateFrom (c .before .before .before .before .before .before .before .before .before .before .before .before .before .args .registers) (c .before .before .before .before .before .before .before .before .before .before .before .before .before .args .latches .now)))
 
 same-length-7 : tie.Need-same-length-7
 same-length-7 c = search needs
@@ -185,7 +185,7 @@ returns-10 : tie.Need-returns-10
 unfolding carryOut
 returns-10 c =
     rw (c .before .before .before .before .before .before .before .before .before .before .decision7 .given .1, c .carried10 .ensures, c .before .with-fuse .ensures, fuse-beside (c .before .before .before .before .before .before .before .before .before .before .before .before .before .before .args .registers) (c .before .before .before .before .before .before .before .before .before .before .before .before .before .before .args .latches .now))
-    (c .before .before .before .before .before .before .clear .ensures (stateOf (c .before .before .before .before .before .before .before .before .before .before .before .before .before .before .args .registers) (c .before .before .before .before .before .before .before .before .before .before .before .before .before .before .args .latches .now)))
+    (c .before .before .before .before .before .before .clear .ensures (stateFrom (c .before .before .before .before .before .before .before .before .before .before .before .before .before .before .args .registers) (c .before .before .before .before .before .before .before .before .before .before .before .before .before .before .args .latches .now)))
 
 returns-11 : tie.Need-returns-11
 unfolding carryOut

@@ -3,7 +3,7 @@ use mathlib.Core.Path.{ap}
 use Rattle.flash.specs.Operations.{Outcome}
 use Rattle.flash.specs.declared.RowProgrammed.{RowProgrammed}
 use Rattle.device.specs.CarryingOut.{leaves, rowAnswer, rowLatches, programs}
-use Rattle.device.specs.Internals.{stateOf}
+use Rattle.device.specs.Internals.{stateFrom}
 use borrow.Author.Needs.{needs}
 use Rattle.device.proofs.carrying.program.Statement.{statement}
 use Rattle.device.proofs.carrying.program.Tie as tie
@@ -39,7 +39,7 @@ returns : tie.Need-returns
 unfolding programs
 returns c =
     λ registers. rw (c .before .before .before .before .before .before .before .before .enum-told .given .1, c .row-answer .ensures, c .before .use-up .ensures)
-    (ap (λ (row : Outcome RowProgrammed). leaves (rowAnswer (row .answer)) (stateOf registers (rowLatches (c .before .before .before .before .before .before .before .before .before .before .before .before .args .latches .now) (row .answer))) (row .flash) (c .before .before .before .before .before .before .before .before .before .before .before .before .args .auxiliary .now)) (c .before .before .before .before .before .program-row .ensures))
+    (ap (λ (row : Outcome RowProgrammed). leaves (rowAnswer (row .answer)) (stateFrom registers (rowLatches (c .before .before .before .before .before .before .before .before .before .before .before .before .args .latches .now) (row .answer))) (row .flash) (c .before .before .before .before .before .before .before .before .before .before .before .before .args .auxiliary .now)) (c .before .before .before .before .before .program-row .ensures))
 
 same-length-2 : tie.Need-same-length-2
 same-length-2 c = search needs
@@ -48,7 +48,7 @@ returns-2 : tie.Need-returns-2
 unfolding programs
 returns-2 c =
     λ registers. rw (c .before .before .before .before .before .before .before .before .enum-told2 .given .1, c .row-answer2 .ensures, c .before .use-up2 .ensures)
-    (ap (λ (row : Outcome RowProgrammed). leaves (rowAnswer (row .answer)) (stateOf registers (rowLatches (c .before .before .before .before .before .before .before .before .before .before .before .before .args .latches .now) (row .answer))) (c .before .before .before .before .before .before .before .before .before .before .before .before .args .general .now) (row .flash)) (c .before .before .before .before .before .program-row2 .ensures))
+    (ap (λ (row : Outcome RowProgrammed). leaves (rowAnswer (row .answer)) (stateFrom registers (rowLatches (c .before .before .before .before .before .before .before .before .before .before .before .before .args .latches .now) (row .answer))) (c .before .before .before .before .before .before .before .before .before .before .before .before .args .general .now) (row .flash)) (c .before .before .before .before .before .program-row2 .ensures))
 
 pub program-spec : {M : Type 1} → statement M
 program-spec =

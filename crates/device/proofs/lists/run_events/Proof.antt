@@ -5,7 +5,7 @@ use native.Mathlib.Nat.{sub-zero}
 use native.Mathlib.Omega.{arith}
 use borrow.Author.Needs.{needs}
 use lib.ListN.{length, drop}
-use Rattle.device.specs.Internals.{stateOf}
+use Rattle.device.specs.Internals.{stateFrom}
 use Rattle.device.specs.Lists.{traceOf, endsRun}
 use Rattle.device.proofs.Runs.{joined, joined-none, joined-start, trace-end, turn-on, turn-stop, list-whole, list-room}
 use Rattle.device.proofs.lists.run_events.Statement.{statement}
@@ -14,8 +14,8 @@ use Rattle.device.proofs.lists.run_events.Tie as tie
 abbrev Inv-loop : tie.InvT-loop
 Inv-loop description general₀ auxiliary₀ list slots₀ limit total registers₀ latches₀ index₀ general auxiliary slots registers latches index =
     (index ≤ total) × (length general ≡ length general₀) × (length auxiliary ≡ length auxiliary₀) × (length slots ≡ length slots₀)
-    × (joined index slots (traceOf description (limit - index) (stateOf registers latches) general auxiliary (drop (3 * index) list))
-    ≡ joined 0 slots₀ (traceOf description limit (stateOf registers₀ latches₀) general₀ auxiliary₀ list))
+    × (joined index slots (traceOf description (limit - index) (stateFrom registers latches) general auxiliary (drop (3 * index) list))
+    ≡ joined 0 slots₀ (traceOf description limit (stateFrom registers₀ latches₀) general₀ auxiliary₀ list))
 
 abbrev μ-loop : tie.MeasureT-loop
 μ-loop description general₀ auxiliary₀ list slots₀ limit total registers₀ latches₀ index₀ general auxiliary slots registers latches index = total - index
@@ -110,7 +110,7 @@ returns-2 c =
     let a = c .before .before .before .before .before .before .before .before .before .before .before .args in
     let loop = c .before .before .before .loop in
     let h = c .before .before .before .before .before .before .before .before .before .before .before .pre .1 in
-    let state = stateOf (loop .registers) (loop .latches) in
+    let state = stateFrom (loop .registers) (loop .latches) in
     rw (c .ended2 .ensures, c .before .joined2 .ensures)
     (sym (joined-none (loop .index) (loop .slots) state (loop .general) (loop .auxiliary))
     ∙ ap (joined (loop .index) (loop .slots)) (sym (trace-end _ (a .limit) (loop .index) state (loop .general) (loop .auxiliary) (a .list .now) (list-whole _ _ h) (omega arith)))
