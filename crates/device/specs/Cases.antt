@@ -17,7 +17,7 @@ use Rattle.flash.specs.Operations.{readWord, programmedWords, total, rowNotSet,
 use Rattle.part.specs.Descriptions.{valid, generalWords, auxiliaryWords, bench}
 use Rattle.part.specs.Places.{placeOf, running, targetOf}
 use Rattle.event.specs.Events.{wellFormed}
-use Rattle.device.specs.Rules.{isShut, flowChange, readIn, programIn, eraseIn, ownRule, ruleFrom, decide}
+use Rattle.device.specs.Rules.{isShut, flowChange, readIn, changeIn, ownRule, ruleFrom, decide}
 use Rattle.device.specs.CarryingOut.{Left, blankLatches, programs, erases, carryOut}
 use Rattle.device.specs.OneEvent.{eventOn, step}
 use Rattle.device.specs.declared.State.{State}
@@ -135,5 +135,5 @@ marked =
 
 -- The definitions say of every case what document 01 says.
 pub marked-points : map computed marked ≡ marked
-unfolding computed marked isShut levelOf storedByte andOf writeProtectionOf notSetOf step valid wellFormed eventOn decide running placeOf ruleFrom ownRule flowChange readIn programIn eraseIn targetOf allows rowOf carryOut programs erases readWord programRowAt programmedWords rowNotSet total zipWith eraseRange erasePage withPart
+unfolding computed marked isShut levelOf storedByte andOf writeProtectionOf notSetOf step valid wellFormed eventOn decide running placeOf ruleFrom ownRule flowChange readIn changeIn targetOf allows rowOf carryOut programs erases readWord programRowAt programmedWords rowNotSet total zipWith eraseRange erasePage withPart
 marked-points = refl

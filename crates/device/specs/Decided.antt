@@ -32,8 +32,7 @@ use Rattle.device.specs.Rules.{
   interrupt,
   readIn,
   mayChange,
-  programIn,
-  eraseIn,
+  changeIn,
   releases,
   programFgs,
   isOpen,
@@ -45,7 +44,7 @@ use Rattle.device.specs.Rules.{
 }
 use Rattle.measure.specs.Tests.{byTest, byValue, never, and-left, and-right, or-left, or-else}
 use Rattle.device.specs.Alike.{vectorsIn, fuseOf, isOwn, ownCode}
-use Rattle.device.specs.Harmless.{Quiet}
+use Rattle.device.specs.Harmless.{harmless, Quiet}
 use Rattle.part.specs.declared.Description.{Description}
 use Rattle.event.specs.declared.Event.{Event}
 use Rattle.event.specs.declared.Event.the-variants.{
@@ -69,6 +68,7 @@ use Rattle.part.specs.declared.Place.the-variants.{Unimplemented, InArray}
 use Rattle.part.specs.declared.Running.{Running}
 use Rattle.part.specs.declared.Running.the-variants.{NotExecutable, Executing}
 use Rattle.device.specs.declared.Decision.{Decision}
+use Rattle.device.specs.declared.Decision.the-variants.{ProgramAt, EraseAt}
 
 arrays-differ : GeneralArray ≡ AuxiliaryArray → ⊥
 arrays-differ e = let z : _≡_ {A = ℕ} 0 1 = cc in omega arith
@@ -172,24 +172,17 @@ module _ (d : Description) (fgs fas : ℕ) where
         (λ t. record { holds = λ e. read-own S origin n h (rw e at t) })
         (λ _. record { holds = tt })
 
-    program-quiet : valid d ≡ true → (origin : Origin) (place : Place) → Quiet d S (isOwn S origin) (programIn d fgs fas origin place)
-    unfolding programIn
-    program-quiet v origin Unimplemented = record { holds = tt }
-    program-quiet v origin (InArray array n) =
+    -- a row and a page alike: where it is of S, S's own code asked, and it lies past the vectors
+    change-quiet : (change : FlashArray → ℕ → Decision) (origin : Origin)
+        → ((array : FlashArray) (n : ℕ) → (array ≡ S → Changed S origin n) → harmless d S (isOwn S origin) (change array n))
+        → valid d ≡ true
+        → (place : Place)
+        → Quiet d S (isOwn S origin) (changeIn change d fgs fas origin place)
+    unfolding changeIn
+    change-quiet change origin of v Unimplemented = record { holds = tt }
+    change-quiet change origin of v (InArray array n) =
         byTest (Quiet d S (isOwn S origin)) (mayChange d fgs fas origin array n)
-        (λ t. record {
-          holds = λ e.
-              let c : Changed S origin n = change-own S origin n h v (rw e at t) in
-              record { code = c .code; past = c .row };
-        })
-        (λ _. record { holds = tt })
-
-    erase-quiet : valid d ≡ true → (origin : Origin) (place : Place) → Quiet d S (isOwn S origin) (eraseIn d fgs fas origin place)
-    unfolding eraseIn
-    erase-quiet v origin Unimplemented = record { holds = tt }
-    erase-quiet v origin (InArray array n) =
-        byTest (Quiet d S (isOwn S origin)) (mayChange d fgs fas origin array n)
-        (λ t. record { holds = λ e. change-own S origin n h v (rw e at t) .page })
+        (λ t. record { holds = of array n (λ e. change-own S origin n h v (rw e at t)) })
         (λ _. record { holds = tt })
 
   -- a byte is stored in a fuse byte that is high only if the level stays
@@ -245,8 +238,9 @@ module _ (d : Description) (fgs fas : ℕ) where
   rule-quiet S pc word origin (Interrupt vector) h v = interrupt-quiet S (isOwn S origin) word origin
   rule-quiet S pc word origin (TableRead a) h v = read-quiet S h origin (placeAt d a)
   rule-quiet S pc word origin (TableWrite a w) h v = record { holds = tt }
-  rule-quiet S pc word origin (ProgramRow a) h v = program-quiet S h v origin (placeAt d a)
-  rule-quiet S pc word origin (ErasePage a) h v = erase-quiet S h v origin (placeAt d a)
+  rule-quiet S pc word origin (ProgramRow a) h v =
+      change-quiet S h ProgramAt origin (λ array n c e. record { code = c e .code; past = c e .row }) v (placeAt d a)
+  rule-quiet S pc word origin (ErasePage a) h v = change-quiet S h EraseAt origin (λ array n c e. c e .page) v (placeAt d a)
   rule-quiet S pc word origin EraseGeneral h v =
       byTest (Quiet d S (isOwn S origin)) (not (fromGeneral origin)) (λ _. record { holds = tt }) (λ _. record { holds = tt })
   rule-quiet S pc word origin EraseAuxiliary h v =

@@ -103,21 +103,18 @@ tableWrite a word = LoadLatch (locationOf a .0 % 64) word
 abbrev pub mayChange : Description → ℕ → ℕ → Origin → FlashArray → ℕ → Bool
 mayChange d fgs fas origin array n = allows Program origin (targetOf (d .keys) fgs fas (segmentOf (d .page) array n))
 
--- Rule 6. "Program row"; "Unimplemented: 2."
-unfoldable pub programIn : Description → ℕ → ℕ → Origin → Place → Decision
-programIn d fgs fas origin Unimplemented = Refuse NotStarted
-programIn d fgs fas origin (InArray array n) = orRefuse (mayChange d fgs fas origin array n) (ProgramAt array n) NotStarted
+-- Rules 6 and 7, of a place: "Unimplemented: 2", else what rule 8 allows
+unfoldable pub changeIn : (FlashArray → ℕ → Decision) → Description → ℕ → ℕ → Origin → Place → Decision
+changeIn change d fgs fas origin Unimplemented = Refuse NotStarted
+changeIn change d fgs fas origin (InArray array n) = orRefuse (mayChange d fgs fas origin array n) (change array n) NotStarted
 
+-- Rule 6. "Program row"
 abbrev pub programRow : Description → ℕ → ℕ → Origin → ProgramAddress → Decision
-programRow d fgs fas origin a = programIn d fgs fas origin (placeAt d a)
+programRow d fgs fas origin a = changeIn ProgramAt d fgs fas origin (placeAt d a)
 
--- Rule 7. "Erase page"; "Unimplemented: 2."
-unfoldable pub eraseIn : Description → ℕ → ℕ → Origin → Place → Decision
-eraseIn d fgs fas origin Unimplemented = Refuse NotStarted
-eraseIn d fgs fas origin (InArray array n) = orRefuse (mayChange d fgs fas origin array n) (EraseAt array n) NotStarted
-
+-- Rule 7. "Erase page"
 abbrev pub erasePage : Description → ℕ → ℕ → Origin → ProgramAddress → Decision
-erasePage d fgs fas origin a = eraseIn d fgs fas origin (placeAt d a)
+erasePage d fgs fas origin a = changeIn EraseAt d fgs fas origin (placeAt d a)
 
 -- Rule 9. "Kind 8 starts only with origin AS, kind 9 only with origin GS on a part that has AS; else 2."
 abbrev pub eraseGeneral : Origin → Decision

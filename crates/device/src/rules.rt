@@ -23,9 +23,8 @@ ghost use Rattle.device.specs.Rules.{
   tableRead,
   tableWrite,
   mayChange,
-  programIn,
   programRow,
-  eraseIn,
+  changeIn,
   erasePage,
   eraseGeneral,
   eraseAuxiliary,
@@ -170,7 +169,7 @@ fn may_change(
 }
 
 fn program_in(description: Description, fgs: u8, fas: u8, origin: Origin, place: Place) -> Decision
-    ensures { λ r. ⌜ r ≡ programIn description fgs fas origin place ⌝ }
+    ensures { λ r. ⌜ r ≡ changeIn Decision.ProgramAt description fgs fas origin place ⌝ }
 {
     match place {
         Place::Unimplemented => Decision::Refuse(Answer::NotStarted),
@@ -201,7 +200,7 @@ fn program_row(
 }
 
 fn erase_in(description: Description, fgs: u8, fas: u8, origin: Origin, place: Place) -> Decision
-    ensures { λ r. ⌜ r ≡ eraseIn description fgs fas origin place ⌝ }
+    ensures { λ r. ⌜ r ≡ changeIn Decision.EraseAt description fgs fas origin place ⌝ }
 {
     match place {
         Place::Unimplemented => Decision::Refuse(Answer::NotStarted),

@@ -1,5 +1,5 @@
 -- `device::rules::program_in` meets its contract. Assumes nothing.
-use Rattle.device.specs.Rules.{programIn}
+use Rattle.device.specs.Rules.{changeIn}
 use borrow.Author.Needs.{needs}
 use Rattle.device.proofs.rules.program_in.Statement.{statement}
 use Rattle.device.proofs.rules.program_in.Tie as tie
@@ -17,11 +17,11 @@ or-refuse-requires : tie.Need-or-refuse-requires
 or-refuse-requires c κs = search needs
 
 returns : tie.Need-returns
-unfolding programIn
+unfolding changeIn
 returns c = rw (c .enum-told .given .1)
 
 returns-2 : tie.Need-returns-2
-unfolding programIn
+unfolding changeIn
 returns-2 c = rw (c .before .before .before .place .given .1, ← c .before .may-change .ensures) (c .or-refuse .ensures)
 
 pub program-in-spec : {M : Type 1} → statement M
