@@ -1,6 +1,6 @@
 //! Runs both models on one scenario and finds the first number in which they differ.
 
-use crate::library::{RunReport, StateNumbers, StepReport};
+use crate::library::{DescriptionNumbers, Lent, RunReport, StateNumbers, StepReport};
 use crate::scenario::{lent_slots, Scenario, COUNTER};
 use crate::subject::Subject;
 use std::fmt;
@@ -31,15 +31,19 @@ impl Arrays {
         }
     }
 
+    /// Lends the arrays to one call, with the numbers of their part.
+    pub fn lend<'a>(&'a mut self, description: &'a DescriptionNumbers) -> Lent<'a> {
+        Lent {
+            description,
+            state: &mut self.state,
+            general: &mut self.general,
+            auxiliary: &mut self.auxiliary,
+        }
+    }
+
     /// Answers one event.
     pub fn step(&mut self, subject: &Subject, scenario: &Scenario, event: [u32; 3]) -> StepReport {
-        (subject.step)(
-            &scenario.description,
-            &mut self.state,
-            &mut self.general,
-            &mut self.auxiliary,
-            event,
-        )
+        (subject.step)(self.lend(&scenario.description), event)
     }
 
     /// Runs a list.
@@ -51,15 +55,7 @@ impl Arrays {
         limit: usize,
         slots: &mut [u32],
     ) -> RunReport {
-        (subject.run)(
-            &scenario.description,
-            &mut self.state,
-            &mut self.general,
-            &mut self.auxiliary,
-            events,
-            limit,
-            slots,
-        )
+        (subject.run)(self.lend(&scenario.description), events, limit, slots)
     }
 
     fn words(&self) -> usize {

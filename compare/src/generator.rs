@@ -129,13 +129,18 @@ fn damaged(random: &mut Random, _: u32) -> Scenario {
     scenario
 }
 
+/// Now and then spoils the list as well: refusals 7 and 8 must come before what is wrong in it.
+fn spoil_list(random: &mut Random, events: &mut Vec<u32>) {
+    if random.once_in(4) {
+        damage::reserve_kinds(random, events);
+        damage::change_length(random, events);
+    }
+}
+
 fn wrong_lengths(random: &mut Random, _: u32) -> Scenario {
     let mut scenario = listed(random, &MIXED);
     damage::change_flash_lengths(random, &mut scenario);
-    if random.once_in(4) {
-        damage::reserve_kinds(random, &mut scenario.events);
-        damage::change_length(random, &mut scenario.events);
-    }
+    spoil_list(random, &mut scenario.events);
     scenario
 }
 
@@ -145,10 +150,7 @@ fn bad_descriptions(random: &mut Random, _: u32) -> Scenario {
     if random.once_in(4) {
         damage::change_flash_lengths(random, &mut scenario);
     }
-    if random.once_in(4) {
-        damage::reserve_kinds(random, &mut scenario.events);
-        damage::change_length(random, &mut scenario.events);
-    }
+    spoil_list(random, &mut scenario.events);
     scenario
 }
 

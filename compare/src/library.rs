@@ -6,6 +6,14 @@ pub type DescriptionNumbers = [u32; 5];
 /// The numbers of a state: PC, IOPUWR, stopped, FGS, FAS, then the 64 latches.
 pub type StateNumbers = [u32; 69];
 
+/// What one call is lent: the part's numbers, its state and its two flash arrays.
+pub struct Lent<'a> {
+    pub description: &'a DescriptionNumbers,
+    pub state: &'a mut StateNumbers,
+    pub general: &'a mut [u32],
+    pub auxiliary: &'a mut [u32],
+}
+
 /// What a run reports: its own answer and how many events it answered.
 #[derive(Clone, Copy, Debug, PartialEq, Eq)]
 pub struct RunReport {
@@ -22,8 +30,8 @@ pub struct StepReport {
 
 extern "C" {
     fn pinionclay_run(
-        description: *const u32,
-        state: *mut u32,
+        description: *const DescriptionNumbers,
+        state: *mut StateNumbers,
         general: *mut u32,
         general_length: usize,
         auxiliary: *mut u32,
@@ -37,8 +45,8 @@ extern "C" {
     ) -> u32;
 
     fn pinionclay_step(
-        description: *const u32,
-        state: *mut u32,
+        description: *const DescriptionNumbers,
+        state: *mut StateNumbers,
         general: *mut u32,
         general_length: usize,
         auxiliary: *mut u32,
@@ -54,26 +62,18 @@ extern "C" {
 ///
 /// The answer is 0 with the count, or 7, 8, 9 with count 0 and nothing written; see
 /// `include/pinionclay.h`.
-pub fn run(
-    description: &DescriptionNumbers,
-    state: &mut StateNumbers,
-    general: &mut [u32],
-    auxiliary: &mut [u32],
-    events: &[u32],
-    limit: usize,
-    slots: &mut [u32],
-) -> RunReport {
+pub fn run(lent: Lent, events: &[u32], limit: usize, slots: &mut [u32]) -> RunReport {
     // The library always writes the count; a start no count has would show if it did not.
     let mut count = usize::MAX;
     // SAFETY: each pointer comes with its own length, and the borrows keep the arrays apart.
     let answer = unsafe {
         pinionclay_run(
-            description.as_ptr(),
-            state.as_mut_ptr(),
-            general.as_mut_ptr(),
-            general.len(),
-            auxiliary.as_mut_ptr(),
-            auxiliary.len(),
+            lent.description,
+            lent.state,
+            lent.general.as_mut_ptr(),
+            lent.general.len(),
+            lent.auxiliary.as_mut_ptr(),
+            lent.auxiliary.len(),
             events.as_ptr(),
             events.len(),
             limit,
@@ -87,27 +87,21 @@ pub fn run(
 
 /// Answers one event: its kind and its numbers A and B.
 ///
-/// The answer is 0 to 6 by the event's rule, or 7, 8 with value 0 and nothing written; see
+/// The answer is 0 to 5 by the event's rule, or 6, 7, 8 with value 0 and nothing written; see
 /// `include/pinionclay.h`.
-pub fn step(
-    description: &DescriptionNumbers,
-    state: &mut StateNumbers,
-    general: &mut [u32],
-    auxiliary: &mut [u32],
-    event: [u32; 3],
-) -> StepReport {
+pub fn step(lent: Lent, event: [u32; 3]) -> StepReport {
     let [kind, first, second] = event;
     // The library always writes the value; a start no value has would show if it did not.
     let mut value = u32::MAX;
     // SAFETY: each pointer comes with its own length, and the borrows keep the arrays apart.
     let answer = unsafe {
         pinionclay_step(
-            description.as_ptr(),
-            state.as_mut_ptr(),
-            general.as_mut_ptr(),
-            general.len(),
-            auxiliary.as_mut_ptr(),
-            auxiliary.len(),
+            lent.description,
+            lent.state,
+            lent.general.as_mut_ptr(),
+            lent.general.len(),
+            lent.auxiliary.as_mut_ptr(),
+            lent.auxiliary.len(),
             kind,
             first,
             second,

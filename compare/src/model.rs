@@ -8,7 +8,7 @@ pub mod layout;
 #[cfg(test)]
 mod tests;
 
-use crate::library::{DescriptionNumbers, RunReport, StateNumbers, StepReport};
+use crate::library::{Lent, RunReport, StepReport};
 use answer::{Answer, Refusal};
 use device::Device;
 use event::Event;
@@ -18,35 +18,21 @@ use layout::Layout;
 pub const LONGEST_LIST: usize = 4096;
 
 /// Answers at most `limit` events of a list, two slots for each.
-pub fn run(
-    description: &DescriptionNumbers,
-    state: &mut StateNumbers,
-    general: &mut [u32],
-    auxiliary: &mut [u32],
-    events: &[u32],
-    limit: usize,
-    slots: &mut [u32],
-) -> RunReport {
-    let layout = match admit_list(description, general, auxiliary, events, slots) {
+pub fn run(lent: Lent, events: &[u32], limit: usize, slots: &mut [u32]) -> RunReport {
+    let layout = match admit_list(&lent, events, slots) {
         Ok(layout) => layout,
         Err(refusal) => return refused_run(refusal),
     };
-    let mut device = Device::new(layout, state, general, auxiliary);
+    let mut device = Device::new(layout, lent.state, lent.general, lent.auxiliary);
     let count = device.run(events, limit, slots);
     let registers = device.registers();
-    state[..registers.len()].copy_from_slice(&registers);
+    lent.state[..registers.len()].copy_from_slice(&registers);
     RunReport { answer: 0, count }
 }
 
 /// Answers one event: its kind and its numbers A and B.
-pub fn step(
-    description: &DescriptionNumbers,
-    state: &mut StateNumbers,
-    general: &mut [u32],
-    auxiliary: &mut [u32],
-    event: [u32; 3],
-) -> StepReport {
-    let layout = match Layout::new(description, general, auxiliary) {
+pub fn step(lent: Lent, event: [u32; 3]) -> StepReport {
+    let layout = match Layout::new(lent.description, lent.general, lent.auxiliary) {
         Ok(layout) => layout,
         Err(refusal) => return refused_step(refusal),
     };
@@ -54,22 +40,16 @@ pub fn step(
         Some(event) => event,
         None => return reported(Answer::Malformed),
     };
-    let mut device = Device::new(layout, state, general, auxiliary);
+    let mut device = Device::new(layout, lent.state, lent.general, lent.auxiliary);
     let answer = device.answer(event);
     let registers = device.registers();
-    state[..registers.len()].copy_from_slice(&registers);
+    lent.state[..registers.len()].copy_from_slice(&registers);
     reported(answer)
 }
 
 /// The refusals of a run in the paper's order: 7, 8, 9.
-fn admit_list(
-    description: &DescriptionNumbers,
-    general: &[u32],
-    auxiliary: &[u32],
-    events: &[u32],
-    slots: &[u32],
-) -> Result<Layout, Refusal> {
-    let layout = Layout::new(description, general, auxiliary)?;
+fn admit_list(lent: &Lent, events: &[u32], slots: &[u32]) -> Result<Layout, Refusal> {
+    let layout = Layout::new(lent.description, lent.general, lent.auxiliary)?;
     if list_faults(events.len(), slots.len()) == [false; 3] {
         Ok(layout)
     } else {

@@ -1,20 +1,11 @@
 //! The two models under comparison, called in the same way.
 
-use crate::library::{self, DescriptionNumbers, RunReport, StateNumbers, StepReport};
+use crate::library::{self, Lent, RunReport, StepReport};
 use crate::model;
 
-type Run = fn(
-    &DescriptionNumbers,
-    &mut StateNumbers,
-    &mut [u32],
-    &mut [u32],
-    &[u32],
-    usize,
-    &mut [u32],
-) -> RunReport;
+type Run = fn(Lent, &[u32], usize, &mut [u32]) -> RunReport;
 
-type Step =
-    fn(&DescriptionNumbers, &mut StateNumbers, &mut [u32], &mut [u32], [u32; 3]) -> StepReport;
+type Step = fn(Lent, [u32; 3]) -> StepReport;
 
 /// One of the models, by its two functions.
 #[derive(Clone, Copy)]

@@ -2,7 +2,7 @@
 
 use compare::comparison::{compare_run, compare_steps};
 use compare::generator::families;
-use compare::library::{DescriptionNumbers, RunReport, StateNumbers, StepReport};
+use compare::library::{Lent, RunReport, StepReport};
 use compare::model;
 use compare::random::Random;
 use compare::report::as_test;
@@ -33,49 +33,44 @@ const LEAKY_IN_RUNS: Subject = Subject {
     step: model::step,
 };
 
-fn clear_latch(
-    description: &DescriptionNumbers,
-    state: &mut StateNumbers,
-    general: &mut [u32],
-    auxiliary: &mut [u32],
-    event: [u32; 3],
-) -> StepReport {
-    let report = model::step(description, state, general, auxiliary, event);
+/// Lends to the model what the mistake is made on afterwards.
+fn lend_on<'a>(lent: &'a mut Lent) -> Lent<'a> {
+    Lent {
+        description: lent.description,
+        state: lent.state,
+        general: lent.general,
+        auxiliary: lent.auxiliary,
+    }
+}
+
+fn clear_latch(mut lent: Lent, event: [u32; 3]) -> StepReport {
+    let report = model::step(lend_on(&mut lent), event);
     if event[0] == 6 && report.answer == 0 {
-        state[5] = 0;
+        lent.state[5] = 0;
     }
     report
 }
 
 fn clear_latch_in_run(
-    description: &DescriptionNumbers,
-    state: &mut StateNumbers,
-    general: &mut [u32],
-    auxiliary: &mut [u32],
+    mut lent: Lent,
     events: &[u32],
     limit: usize,
     slots: &mut [u32],
 ) -> RunReport {
-    let report = model::run(description, state, general, auxiliary, events, limit, slots);
+    let report = model::run(lend_on(&mut lent), events, limit, slots);
     let mut answered = events
         .chunks_exact(3)
         .zip(slots.chunks_exact(2))
         .take(report.count);
     if answered.any(|(event, slot)| event[0] == 6 && slot[0] == 0) {
-        state[5] = 0;
+        lent.state[5] = 0;
     }
     report
 }
 
-fn let_word_through(
-    description: &DescriptionNumbers,
-    state: &mut StateNumbers,
-    general: &mut [u32],
-    auxiliary: &mut [u32],
-    event: [u32; 3],
-) -> StepReport {
-    let report = model::step(description, state, general, auxiliary, event);
-    let word = general.get(event[1] as usize / 2);
+fn let_word_through(mut lent: Lent, event: [u32; 3]) -> StepReport {
+    let report = model::step(lend_on(&mut lent), event);
+    let word = lent.general.get(event[1] as usize / 2);
     match (report.answer, word) {
         (1, Some(word)) => StepReport {
             answer: 0,
@@ -85,19 +80,11 @@ fn let_word_through(
     }
 }
 
-fn let_words_through(
-    description: &DescriptionNumbers,
-    state: &mut StateNumbers,
-    general: &mut [u32],
-    auxiliary: &mut [u32],
-    events: &[u32],
-    limit: usize,
-    slots: &mut [u32],
-) -> RunReport {
-    let report = model::run(description, state, general, auxiliary, events, limit, slots);
+fn let_words_through(mut lent: Lent, events: &[u32], limit: usize, slots: &mut [u32]) -> RunReport {
+    let report = model::run(lend_on(&mut lent), events, limit, slots);
     let pairs = events.chunks_exact(3).zip(slots.chunks_exact_mut(2));
     for (event, slot) in pairs.take(report.count) {
-        if let (1, Some(word)) = (slot[0], general.get(event[1] as usize / 2)) {
+        if let (1, Some(word)) = (slot[0], lent.general.get(event[1] as usize / 2)) {
             slot[1] = *word;
         }
     }

@@ -1,5 +1,6 @@
 //! Measures both models on the same inputs, in turn.
 
+use compare::comparison::Arrays;
 use compare::generator::list::{extend, TAME};
 use compare::random::Random;
 use compare::scenario::{lent_slots, Scenario, AUXILIARY_FUSE, BLANK, COUNTER, GENERAL_FUSE};
@@ -150,20 +151,11 @@ fn report(name: &str, scenario: &Scenario, filled: usize) -> u64 {
 
 /// One run on fresh arrays, whose copying is not measured.
 fn measure(subject: &Subject, scenario: &Scenario) -> (Duration, u64) {
-    let mut state = scenario.state;
-    let mut general = scenario.general.clone();
-    let mut auxiliary = scenario.auxiliary.clone();
+    let mut arrays = Arrays::new(scenario);
     let mut slots = lent_slots(scenario.slots);
+    let lent = arrays.lend(&scenario.description);
     let start = Instant::now();
-    let report = (subject.run)(
-        &scenario.description,
-        &mut state,
-        &mut general,
-        &mut auxiliary,
-        &scenario.events,
-        scenario.limit,
-        &mut slots,
-    );
+    let report = (subject.run)(lent, &scenario.events, scenario.limit, &mut slots);
     let elapsed = start.elapsed();
     let name = subject.name;
     assert_eq!(report.count, EVENTS, "{name} did not run to the end");

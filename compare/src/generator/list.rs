@@ -2,7 +2,8 @@
 
 use super::landmarks::Landmarks;
 use super::part::fuse_byte;
-use crate::library::{DescriptionNumbers, StateNumbers};
+use crate::comparison::Arrays;
+use crate::library::DescriptionNumbers;
 use crate::model;
 use crate::random::Random;
 use crate::scenario::{Scenario, STOPPED};
@@ -92,9 +93,7 @@ pub fn extend(random: &mut Random, scenario: &mut Scenario, count: usize, style:
 struct Walk {
     description: DescriptionNumbers,
     landmarks: Landmarks,
-    state: StateNumbers,
-    general: Vec<u32>,
-    auxiliary: Vec<u32>,
+    arrays: Arrays,
 }
 
 impl Walk {
@@ -102,23 +101,21 @@ impl Walk {
         Walk {
             description: scenario.description,
             landmarks: Landmarks::new(&scenario.description),
-            state: scenario.state,
-            general: scenario.general.clone(),
-            auxiliary: scenario.auxiliary.clone(),
+            arrays: Arrays::new(scenario),
         }
     }
 
     /// Proposes events until one fits the style; the model says which would end a run.
     fn advance(&mut self, random: &mut Random, style: &Style) -> [u32; 3] {
         for _ in 0..16 {
-            let before = self.state;
+            let before = self.arrays.state;
             let event = self.propose(random, style);
             let ends_run = ENDINGS.contains(&self.answer(event));
             if !ends_run || keeps_ending(random, style) {
                 return event;
             }
             // An ending changes the state alone, so this takes the proposal back.
-            self.state = before;
+            self.arrays.state = before;
         }
         // Nothing else may be possible, as where PC has moved into the vector space.
         self.answer(POWER_ON);
@@ -126,7 +123,7 @@ impl Walk {
     }
 
     fn propose(&self, random: &mut Random, style: &Style) -> [u32; 3] {
-        let stopped = self.state[STOPPED] != 0;
+        let stopped = self.arrays.state[STOPPED] != 0;
         if stopped && random.once_in(2) {
             return POWER_ON;
         }
@@ -138,14 +135,7 @@ impl Walk {
     }
 
     fn answer(&mut self, event: [u32; 3]) -> u32 {
-        let report = model::step(
-            &self.description,
-            &mut self.state,
-            &mut self.general,
-            &mut self.auxiliary,
-            event,
-        );
-        report.answer
+        model::step(self.arrays.lend(&self.description), event).answer
     }
 }
 

@@ -2,6 +2,7 @@
 
 use super::fuse::Fuse;
 use super::{run, step};
+use crate::library::Lent;
 use crate::scenario::{Scenario, AUXILIARY_FUSE, BLANK, COUNTER, GENERAL_FUSE, STOPPED};
 
 /// A new bench device with the given PC and fuse bytes.
@@ -13,15 +14,19 @@ fn bench(counter: u32, general_fuse: u32, auxiliary_fuse: u32) -> Scenario {
     device
 }
 
+/// The device, lent to one call.
+fn lend(device: &mut Scenario) -> Lent<'_> {
+    Lent {
+        description: &device.description,
+        state: &mut device.state,
+        general: &mut device.general,
+        auxiliary: &mut device.auxiliary,
+    }
+}
+
 /// The answer and value of one event, which changes the device.
 fn answer(device: &mut Scenario, event: [u32; 3]) -> (u32, u32) {
-    let report = step(
-        &device.description,
-        &mut device.state,
-        &mut device.general,
-        &mut device.auxiliary,
-        event,
-    );
+    let report = step(lend(device), event);
     (report.answer, report.value)
 }
 
@@ -185,15 +190,7 @@ fn a_run_ends_at_its_first_trap() {
     let mut device = bench(0x400, 0x03, 0x03);
     let events = [1, 0, 0, 99, 0, 0, 2, 0x30_0000, 0, 12, 0, 0];
     let mut slots = [77; 8];
-    let report = run(
-        &device.description,
-        &mut device.state,
-        &mut device.general,
-        &mut device.auxiliary,
-        &events,
-        usize::MAX,
-        &mut slots,
-    );
+    let report = run(lend(&mut device), &events, usize::MAX, &mut slots);
     assert_eq!((report.answer, report.count), (0, 3));
     assert_eq!(slots, [0, 0, 6, 0, 4, 0, 77, 77]);
 }
