@@ -1,9 +1,9 @@
 // What a line shows.
-use device::Answer;
 use device::State;
 use event::Event;
 use libc::STDOUT_FILENO;
 use measure::ProgramAddress;
+use rules::Answer;
 
 pub fn print(text: &[u8]) {
     io::write_all(STDOUT_FILENO, text);

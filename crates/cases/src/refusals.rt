@@ -73,7 +73,7 @@ fn print_bad_description() {
     let mut general = [bench::BLANK; bench::GENERAL];
     let mut auxiliary = [bench::BLANK; bench::AUXILIARY];
     let mut description = Description::bench();
-    description.page = 256;
+    description.page_words = 256;
     bench::show_on(
         b"the description says pages of 256 words",
         description,

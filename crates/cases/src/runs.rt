@@ -127,7 +127,7 @@ fn print_longest() {
 fn print_bad_devices() {
     let mut slots = [UNTOUCHED; 8];
     let mut description = Description::bench();
-    description.page = 256;
+    description.page_words = 256;
     show_on(
         b"the description says pages of 256 words",
         description,
@@ -137,7 +137,7 @@ fn print_bad_devices() {
         100,
     );
     let mut longer = Description::bench();
-    longer.general = 11;
+    longer.general_pages = 11;
     show_on(
         b"the description says 11 pages of GS, and the array has 10",
         longer,

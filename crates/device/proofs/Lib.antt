@@ -1,4 +1,3 @@
-pub mod Laws
 pub mod Runs
 mod Unique
 mod SecrecyOfContracts

@@ -12,19 +12,18 @@ use lib.ListN.{length, getD, set, drop, drop-of-length-le}
 use lib.Seq.{drop-cons, sets, sets-eq}
 use Rattle.measure.specs.Choice.{if_then_else_}
 use Rattle.measure.specs.Tests.{and-left, and-right}
-use Rattle.device.specs.Answers.{numberOf, valueOf}
+use Rattle.rules.specs.Answers.{numberOf, valueOf}
 use Rattle.event.specs.Events.{decode}
-use Rattle.device.specs.CarryingOut.{Left, leaves}
+use Rattle.carrying.specs.CarryingOut.{Device, Left, leaves}
 use Rattle.device.specs.Internals.{eventAt, stored}
-use Rattle.device.specs.Lists.{decodedOn, endsRun, Trace, noEvent, andThen, traceOf, RunLeft, ranTo, told, goodList}
+use Rattle.device.specs.Lists.{decodedOn, endsRun, Trace, noEvent, andThen, traceOf, RunLeft, ranTo, told, isGoodList}
 use Rattle.part.specs.declared.Description.{Description}
-use Rattle.device.specs.declared.State.{State}
-use Rattle.device.specs.declared.Answer.{Answer}
-use Rattle.device.specs.declared.Answer.the-variants.{Done}
+use Rattle.rules.specs.declared.Answer.{Answer}
+use Rattle.rules.specs.declared.Answer.the-variants.{Done}
 
 -- ---- what a good list is
 
-module _ (list slots : ℕ) (h : goodList list slots ≡ true) where
+module _ (list slots : ℕ) (h : isGoodList list slots ≡ true) where
   pub list-whole : list % 3 ≡ 0
   list-whole =
       eqb-true (list % 3) 0 (and-left (eqb (list % 3) 0) (leb (list / 3) 4096)
@@ -36,16 +35,16 @@ module _ (list slots : ℕ) (h : goodList list slots ≡ true) where
 -- ---- i events are answered, in the first slots, and t is what the rest comes to
 
 abbrev pub joined : ℕ → List ℕ → Trace → RunLeft
-joined i slots t = ranTo (Done 0) (i + t .count) (t .state) (t .general) (t .auxiliary) (sets slots (2 * i) (t .answers))
+joined i slots t = ranTo (Done 0) (i + t .count) (t .device) (sets slots (2 * i) (t .answers))
 
 -- nothing is left
-pub joined-none : (i : ℕ) (slots : List ℕ) (s : State) (g x : List ℕ) → joined i slots (noEvent s g x) ≡ ranTo (Done 0) i s g x slots
-joined-none i slots s g x = rw (add-zero i)
+pub joined-none : (i : ℕ) (slots : List ℕ) (device : Device) → joined i slots (noEvent device) ≡ ranTo (Done 0) i device slots
+joined-none i slots device = rw (add-zero i)
 
 -- one event more is answered
-joined-then : (i : ℕ) (slots : List ℕ) (answer : Answer) (s : State) (g x : List ℕ) (t : Trace)
-    → joined i slots (andThen (leaves answer s g x) t) ≡ joined (i + 1) (stored slots i answer) t
-joined-then i slots answer s g x t =
+joined-then : (i : ℕ) (slots : List ℕ) (answer : Answer) (device : Device) (t : Trace)
+    → joined i slots (andThen (leaves answer device) t) ≡ joined (i + 1) (stored slots i answer) t
+joined-then i slots answer device t =
     let c : i + suc (t .count) ≡ (i + 1) + t .count = omega arith in
     let n : suc (suc (2 * i)) ≡ 2 * (i + 1) = omega arith in
     let m : suc (2 * i) ≡ 2 * i + 1 = omega arith in
@@ -62,42 +61,42 @@ three list i h =
     (drop-cons list (suc (3 * i)) 0 (omega arith) ∙ ap (λ l. getD list (suc (3 * i)) 0 ∷ l)
     (drop-cons list (suc (suc (3 * i))) 0 (omega arith))))
 
-trace-nil : (d : Description) (n : ℕ) (s : State) (g x : List ℕ) → traceOf d n s g x [] ≡ noEvent s g x
+trace-nil : (d : Description) (n : ℕ) (device : Device) → traceOf d n device [] ≡ noEvent device
 unfolding traceOf
-trace-nil d zero s g x = refl
-trace-nil d (suc n) s g x = refl
+trace-nil d zero device = refl
+trace-nil d (suc n) device = refl
 
 -- at the limit, or at the list's end
-pub trace-end : (d : Description) (limit i : ℕ) (s : State) (g x list : List ℕ) → length list % 3 ≡ 0 → min limit (length list / 3) ≤ i
-    → traceOf d (limit - i) s g x (drop (3 * i) list) ≡ noEvent s g x
+pub trace-end : (d : Description) (limit i : ℕ) (device : Device) (list : List ℕ) → length list % 3 ≡ 0 → min limit (length list / 3) ≤ i
+    → traceOf d (limit - i) device (drop (3 * i) list) ≡ noEvent device
 unfolding traceOf
-trace-end d limit i s g x list m h =
-    ⊎-elim (λ e. rw e) (λ l. rw (drop-of-length-le list {i = 3 * i} (omega arith)) (trace-nil d (limit - i) s g x)) (eq-zero-or-pos (limit - i))
+trace-end d limit i device list m h =
+    ⊎-elim (λ e. rw e) (λ l. rw (drop-of-length-le list {i = 3 * i} (omega arith)) (trace-nil d (limit - i) device)) (eq-zero-or-pos (limit - i))
 
 -- ---- a turn of the loop, from what `listed` promises: what the whole run leaves is then what the rest comes to
 
-module _ (d : Description) (limit total i : ℕ) (s : State) (g x list slots : List ℕ) (answer : Answer) (s′ : State) (g′ x′ slots′ : List ℕ)
+module _ (d : Description) (limit total i : ℕ) (device : Device) (list slots : List ℕ) (answer : Answer) (after : Device) (slots′ : List ℕ)
     (whole : RunLeft) (test : i < total) (least : total ≡ min limit (length list / 3)) (threes : length list % 3 ≡ 0)
-    (e : leaves answer s′ g′ x′ ≡ decodedOn d s g x (eventAt list i))
+    (e : leaves answer after ≡ decodedOn d device (eventAt list i))
     (es : slots′ ≡ stored slots i answer)
-    (inv : joined i slots (traceOf d (limit - i) s g x (drop (3 * i) list)) ≡ whole) where
+    (inv : joined i slots (traceOf d (limit - i) device (drop (3 * i) list)) ≡ whole) where
   rest : Trace
-  rest = traceOf d (limit - (i + 1)) s′ g′ x′ (drop (3 * (i + 1)) list)
+  rest = traceOf d (limit - (i + 1)) after (drop (3 * (i + 1)) list)
 
-  turn : joined (i + 1) slots′ (if endsRun (numberOf answer) then noEvent s′ g′ x′ else rest) ≡ whole
+  turn : joined (i + 1) slots′ (if endsRun (numberOf answer) then noEvent after else rest) ≡ whole
   unfolding traceOf rest
   turn =
       let n : limit - i ≡ suc (limit - (i + 1)) = omega arith in
-      rw es (sym (joined-then i slots answer s′ g′ x′ (if endsRun (numberOf answer) then noEvent s′ g′ x′ else rest))
+      rw es (sym (joined-then i slots answer after (if endsRun (numberOf answer) then noEvent after else rest))
       ∙ rw (n, three list i (omega arith), ← e) at inv)
 
   pub turn-on : endsRun (numberOf answer) ≡ false
-      → joined (i + 1) slots′ (traceOf d (limit - (i + 1)) s′ g′ x′ (drop (3 * (i + 1)) list)) ≡ whole
+      → joined (i + 1) slots′ (traceOf d (limit - (i + 1)) after (drop (3 * (i + 1)) list)) ≡ whole
   unfolding rest
   turn-on on = rw on at turn
 
-  pub turn-stop : endsRun (numberOf answer) ≡ true → ranTo (Done 0) (i + 1) s′ g′ x′ slots′ ≡ whole
-  turn-stop on = sym (joined-none (i + 1) slots′ s′ g′ x′) ∙ rw on at turn
+  pub turn-stop : endsRun (numberOf answer) ≡ true → ranTo (Done 0) (i + 1) after slots′ ≡ whole
+  turn-stop on = sym (joined-none (i + 1) slots′ after) ∙ rw on at turn
 
 -- ---- two slots for each event
 
@@ -106,25 +105,25 @@ if-le : (t : Bool) (u v : Trace) (m : ℕ) → length (u .answers) * 3 ≤ m →
 if-le true u v m p q = p
 if-le false u v m p q = q
 
-answers-le : (d : Description) (n : ℕ) (s : State) (g x list : List ℕ) → length (traceOf d n s g x list .answers) * 3 ≤ length list * 2
+answers-le : (d : Description) (n : ℕ) (device : Device) (list : List ℕ) → length (traceOf d n device list .answers) * 3 ≤ length list * 2
 unfolding traceOf
-answers-le d zero s g x list = omega arith
-answers-le d (suc n) s g x [] = omega arith
-answers-le d (suc n) s g x (kind ∷ []) = omega arith
-answers-le d (suc n) s g x (kind ∷ a ∷ []) = omega arith
-answers-le d (suc n) s g x (kind ∷ a ∷ b ∷ list) =
-    let l : Left = decodedOn d s g x (decode kind a b) in
+answers-le d zero device list = omega arith
+answers-le d (suc n) device [] = omega arith
+answers-le d (suc n) device (kind ∷ []) = omega arith
+answers-le d (suc n) device (kind ∷ a ∷ []) = omega arith
+answers-le d (suc n) device (kind ∷ a ∷ b ∷ list) =
+    let l : Left = decodedOn d device (decode kind a b) in
     omega (
       arith,
-      if-le (endsRun (l .number)) (noEvent (l .state) (l .general) (l .auxiliary)) (traceOf d n (l .state) (l .general) (l .auxiliary) list)
-          (length list * 2) (omega arith) (answers-le d n (l .state) (l .general) (l .auxiliary) list),
+      if-le (endsRun (l .number)) (noEvent (l .device)) (traceOf d n (l .device) list) (length list * 2) (omega arith)
+          (answers-le d n (l .device) list),
     )
 
 -- before the first event, the whole run is left
-pub joined-start : (d : Description) (limit : ℕ) (s : State) (g x list slots : List ℕ) → goodList (length list) (length slots) ≡ true
-    → joined 0 slots (traceOf d limit s g x list) ≡ told slots (traceOf d limit s g x list)
-joined-start d limit s g x list slots h =
-    let t : Trace = traceOf d limit s g x list in
+pub joined-start : (d : Description) (limit : ℕ) (device : Device) (list slots : List ℕ) → isGoodList (length list) (length slots) ≡ true
+    → joined 0 slots (traceOf d limit device list) ≡ told slots (traceOf d limit device list)
+joined-start d limit device list slots h =
+    let t : Trace = traceOf d limit device list in
     let l : 0 + length (t .answers) ≤ length slots =
-    omega (arith, answers-le d limit s g x list, list-whole (length list) (length slots) h, list-room (length list) (length slots) h) in
+    omega (arith, answers-le d limit device list, list-whole (length list) (length slots) h, list-room (length list) (length slots) h) in
     rw (sets-eq (t .answers) slots 0 l, zero-add (t .count), zero-add (length (t .answers)))

@@ -11,16 +11,16 @@ use Rattle.fuse.specs.declared.Level.{Level}
 use Rattle.fuse.specs.declared.Level.the-variants.{None, High}
 use Rattle.fuse.specs.declared.WriteProtection.{WriteProtection}
 use Rattle.fuse.specs.declared.WriteProtection.the-variants.{Writable, Protected}
-use Rattle.permission.specs.Table.{rowOf, allows}
+use Rattle.permission.specs.Table.{rowOf, allowed}
 use Rattle.flash.specs.Parts.{blank, withPart}
-use Rattle.flash.specs.Operations.{readWord, programmedWords, total, rowNotSet, programRowAt, eraseRange, erasePage}
-use Rattle.part.specs.Descriptions.{valid, generalWords, auxiliaryWords, bench}
-use Rattle.part.specs.Places.{placeOf, running, targetOf}
-use Rattle.event.specs.Events.{wellFormed}
-use Rattle.device.specs.Rules.{isShut, flowChange, readIn, changeIn, ownRule, ruleFrom, decide}
-use Rattle.device.specs.CarryingOut.{Left, blankLatches, programs, erases, carryOut}
+use Rattle.flash.specs.Operations.{readWord, rowWords, programmedWords, total, rowNotSet, programRowAt, eraseRange, erasePage}
+use Rattle.part.specs.Descriptions.{isValid, generalWords, auxiliaryWords, bench}
+use Rattle.part.specs.Places.{placeOf, runningAt, targetOf}
+use Rattle.event.specs.Events.{isWellFormed}
+use Rattle.rules.specs.Rules.{isShut, flowChange, readIn, changeIn, ownRule, ruleFrom, decide}
+use Rattle.carrying.specs.CarryingOut.{Device, deviceFrom, Left, blankLatches, program, erase, carryOut}
 use Rattle.device.specs.OneEvent.{eventOn, step}
-use Rattle.device.specs.declared.State.{State}
+use Rattle.rules.specs.declared.Registers.{Registers}
 use Rattle.event.specs.declared.Event.{Event}
 use Rattle.event.specs.declared.Event.the-variants.{FlowChange, TableRead, ProgramRow, ErasePage}
 
@@ -54,32 +54,24 @@ pub data Case : Type 0 where
 -- ---- what the definitions say of a case
 
 abbrev pub indexOf : Setting → ℕ
-indexOf device = locationOf (address (device .at)) .0
+indexOf s = locationOf (address (s .at)) .0
 
-abbrev pub stateOf : Setting → State
-stateOf device =
-    record {
-      pc = address (device .pc);
-      iopuwr = false;
-      stopped = false;
-      fgs = device .fgs;
-      fas = device .fas;
-      latches = set blankLatches (indexOf device % 64) (device .latch);
-    }
+abbrev pub registersOf : Setting → Registers
+registersOf s = record { pc = address (s .pc); iopuwr = false; stopped = false; fgs = s .fgs; fas = s .fas }
 
-abbrev pub generalOf : Setting → List ℕ
-generalOf device = set (replicate (generalWords bench) blank) (indexOf device) (device .word)
-
-abbrev pub auxiliary : List ℕ
-auxiliary = replicate (auxiliaryWords bench) blank
+abbrev pub deviceIn : Setting → Device
+deviceIn s =
+    deviceFrom (registersOf s) (set blankLatches (indexOf s % rowWords) (s .latch))
+    (set (replicate (generalWords bench) blank) (indexOf s) (s .word))
+    (replicate (auxiliaryWords bench) blank)
 
 abbrev pub seenOf : Setting → Left → Seen
-seenOf device left =
+seenOf s left =
     record {
       number = left .number;
       value = left .value;
-      pc = left .state .pc .0;
-      word = getD (left .general) (indexOf device) 0;
+      pc = left .device .registers .pc .0;
+      word = getD (left .device .general) (indexOf s) 0;
     }
 
 -- the case, with what the definitions compute in the place of what it says
@@ -87,8 +79,7 @@ unfoldable pub computed : Case → Case
 computed (ByteCase byte level wrong protection) =
     ByteCase byte (levelOf (bench .keys) byte) (wrongKey (bench .keys) (storedByte (bench .keys) byte)) (writeProtectionOf byte)
 computed (WordCase old latch programmed unset) = WordCase old latch (programmedWord old latch) (bitsNotSet old latch)
-computed (EventCase device event says) =
-    EventCase device event (seenOf device (step bench (stateOf device) (generalOf device) auxiliary event))
+computed (EventCase s event says) = EventCase s event (seenOf s (step bench (deviceIn s) event))
 
 -- ---- the table
 
@@ -135,5 +126,5 @@ marked =
 
 -- The definitions say of every case what document 01 says.
 pub marked-points : map computed marked ≡ marked
-unfolding computed marked isShut levelOf storedByte andOf writeProtectionOf notSetOf step valid wellFormed eventOn decide running placeOf ruleFrom ownRule flowChange readIn changeIn targetOf allows rowOf carryOut programs erases readWord programRowAt programmedWords rowNotSet total zipWith eraseRange erasePage withPart
+unfolding computed marked isShut levelOf storedByte andOf writeProtectionOf notSetOf step isValid isWellFormed eventOn decide runningAt placeOf ruleFrom ownRule flowChange readIn changeIn targetOf allowed rowOf carryOut program erase readWord programRowAt programmedWords rowNotSet total zipWith eraseRange erasePage withPart
 marked-points = refl

@@ -1,27 +1,27 @@
-// The device: description, state, events, answers; one event, a list of events, the lecturer's page view.
+// The device: its state; one event, a list of events, the lecturer's page view.
+use carrying::Carried;
 use event::Event;
+use flash::ROW_WORDS;
 use measure::ProgramAddress;
 use part::Description;
-use part::FlashArray;
-ghost use mathlib.Core.Bool.{true};
+use rules::Answer;
+use rules::Decision;
+use rules::Registers;
 ghost use mathlib.Core.Path.{_≡_};
-ghost use Rattle.part.specs.Descriptions.{valid};
-ghost use Rattle.device.specs.CarryingOut.{leaves};
-ghost use Rattle.device.specs.Internals.{registersOf, stateFrom};
+ghost use lib.ListN.{take};
+ghost use Rattle.part.specs.Places.{vectorWords};
+ghost use Rattle.rules.specs.Rules.{decide};
+ghost use Rattle.carrying.specs.CarryingOut.{deviceFrom, leaves};
+ghost use Rattle.device.specs.States.{registersOf, stateFrom, deviceOf};
 ghost use Rattle.device.specs.OneEvent.{eventOn};
 ghost use Rattle.device.specs.Promises.{
   NewPromise,
-  NumberPromise,
-  ValuePromise,
   StepPromise,
   RunPromise,
   PageViewPromise,
 };
 
-mod carrying;
 mod lists;
-mod rules;
-mod vectors;
 mod views;
 
 // What a device remembers besides its flash.
@@ -31,56 +31,7 @@ pub struct State {
     pub stopped: bool,
     pub fgs: u8,
     pub fas: u8,
-    pub latches: [u32; 64],
-}
-
-// What the student sees.
-pub enum Answer {
-    // With the word read, the bits not set, or 0.
-    Done(u32),
-    Zeroed,
-    NotStarted,
-    SecurityReset,
-    AddressTrap,
-    Stopped,
-    MalformedEvent,
-    BadDescription,
-    WrongFlashLength,
-    BadList,
-}
-
-// What an event comes to: it is decided first, and then carried out.
-pub enum Decision {
-    // Answer, and change nothing.
-    Refuse(Answer),
-    Trap,
-    Reset,
-    PowerUp,
-    MoveTo(ProgramAddress),
-    // Latch, word.
-    LoadLatch(u32, u32),
-    ReadAt(FlashArray, u32),
-    ProgramAt(FlashArray, u32),
-    EraseAt(FlashArray, u32),
-    // Erase the whole array and clear its fuse byte.
-    EraseWhole(FlashArray),
-    // Store its fuse byte.
-    StoreFuse(FlashArray, u8),
-}
-
-// A state but for its latches.
-pub(crate) struct Registers {
-    pub pc: ProgramAddress,
-    pub iopuwr: bool,
-    pub stopped: bool,
-    pub fgs: u8,
-    pub fas: u8,
-}
-
-// What carrying out a decision leaves besides the flash and the latches.
-pub(crate) struct Carried {
-    pub answer: Answer,
-    pub registers: Registers,
+    pub latches: [u32; ROW_WORDS],
 }
 
 // What one event leaves besides the flash.
@@ -96,46 +47,7 @@ pub struct Ran {
     pub state: State,
 }
 
-impl Answer {
-    // The paper's number of the answer.
-    pub fn number(self) -> u32
-        ensures { λ r. ⌜ NumberPromise self r ⌝ }
-    {
-        match self {
-            Answer::Done(_) => 0,
-            Answer::Zeroed => 1,
-            Answer::NotStarted => 2,
-            Answer::SecurityReset => 3,
-            Answer::AddressTrap => 4,
-            Answer::Stopped => 5,
-            Answer::MalformedEvent => 6,
-            Answer::BadDescription => 7,
-            Answer::WrongFlashLength => 8,
-            Answer::BadList => 9,
-        }
-    }
-
-    // The paper's value of the answer.
-    pub fn value(self) -> u32
-        ensures { λ r. ⌜ ValuePromise self r ⌝ }
-    {
-        match self {
-            Answer::Done(value) => value,
-            Answer::Zeroed => 0,
-            Answer::NotStarted => 0,
-            Answer::SecurityReset => 0,
-            Answer::AddressTrap => 0,
-            Answer::Stopped => 0,
-            Answer::MalformedEvent => 0,
-            Answer::BadDescription => 0,
-            Answer::WrongFlashLength => 0,
-            Answer::BadList => 0,
-        }
-    }
-}
-
 impl State {
-    // A new device's.
     pub fn new() -> Self
         ensures { λ r. ⌜ NewPromise r ⌝ }
     {
@@ -145,7 +57,7 @@ impl State {
             stopped: false,
             fgs: 0x03,
             fas: 0x03,
-            latches: [0xFFFFFF; 64],
+            latches: [flash::BLANK; ROW_WORDS],
         }
     }
 
@@ -157,8 +69,8 @@ impl State {
         auxiliary: &mut [u32],
         event: Event,
     ) -> Stepped
-        ensures { λ r. ⌜ StepPromise description self (now (general .entry)) (now (auxiliary .entry)) event
-            (r .answer) (r .state) (now (general .exit)) (now (auxiliary .exit)) ⌝ }
+        ensures { λ r. ⌜ StepPromise description (deviceOf self (now (general .entry)) (now (auxiliary .entry))) event
+            (r .answer) (deviceOf (r .state) (now (general .exit)) (now (auxiliary .exit))) ⌝ }
     {
         if !part::is_valid(description) {
             return refused(Answer::BadDescription, self);
@@ -170,7 +82,7 @@ impl State {
             return refused(Answer::MalformedEvent, self);
         }
         let mut latches = self.latches;
-        let carried = happens(
+        let carried = event_on(
             description,
             registers_of(self),
             &mut latches,
@@ -182,7 +94,7 @@ impl State {
         let registers = carried.registers;
         Stepped {
             answer,
-            state: joined(registers, latches),
+            state: state_from(registers, latches),
         }
     }
 
@@ -196,8 +108,8 @@ impl State {
         slots: &mut [u32],
         limit: usize,
     ) -> Ran
-        ensures { λ r. ⌜ RunPromise description self (now (general .entry)) (now (auxiliary .entry)) (now (list .entry))
-            (now (slots .entry)) limit (r .answer) (r .count) (r .state) (now (general .exit)) (now (auxiliary .exit)) (now (slots .exit)) ⌝ }
+        ensures { λ r. ⌜ RunPromise description (deviceOf self (now (general .entry)) (now (auxiliary .entry))) (now (list .entry)) (now (slots .entry)) limit
+            (r .answer) (r .count) (deviceOf (r .state) (now (general .exit)) (now (auxiliary .exit))) (now (slots .exit)) ⌝ }
     {
         if !part::is_valid(description) {
             return not_run(Answer::BadDescription, self);
@@ -225,7 +137,7 @@ fn registers_of(state: State) -> Registers
     }
 }
 
-fn joined(registers: Registers, latches: [u32; 64]) -> State
+fn state_from(registers: Registers, latches: [u32; ROW_WORDS]) -> State
     ensures { λ r. ⌜ r ≡ stateFrom registers latches ⌝ }
 {
     let pc = registers.pc;
@@ -239,32 +151,33 @@ fn joined(registers: Registers, latches: [u32; 64]) -> State
     }
 }
 
-// A well-formed event on a good device: decided, then carried out.
-fn happens(
+// What an event comes to: of the flash, only the words of the vector space are looked at.
+fn decided(
     description: Description,
     registers: Registers,
-    latches: &mut [u32; 64],
+    general: &[u32],
+    event: Event,
+) -> Decision
+    ensures { λ r. ⌜ r ≡ decide description registers (take vectorWords (now (general .entry))) event ⌝ }
+{
+    rules::decide(description, registers, views::vectors_in(general), event)
+}
+
+// A well-formed event on a good device: decided, then carried out.
+fn event_on(
+    description: Description,
+    registers: Registers,
+    latches: &mut [u32; ROW_WORDS],
     general: &mut [u32],
     auxiliary: &mut [u32],
     event: Event,
 ) -> Carried
-    requires { ⌜ valid description ≡ true ⌝ }
-    ensures { λ r. ⌜ leaves (r .answer) (stateFrom (r .registers) (now (latches .exit))) (now (general .exit)) (now (auxiliary .exit))
-        ≡ eventOn description (stateFrom registers (now (latches .entry))) (now (general .entry)) (now (auxiliary .entry)) event ⌝ }
+    ensures { λ r. ⌜ leaves (r .answer) (deviceFrom (r .registers) (now (latches .exit)) (now (general .exit)) (now (auxiliary .exit)))
+        ≡ eventOn description (deviceFrom registers (now (latches .entry)) (now (general .entry)) (now (auxiliary .entry))) event ⌝ }
 {
-    let word = vectors::vector_word(general, event);
-    let pc = registers.pc;
-    let decision = rules::decide(
-        description,
-        pc,
-        registers.stopped,
-        registers.fgs,
-        registers.fas,
-        word,
-        event,
-    );
+    let decision = decided(description, registers, general, event);
     carrying::carry_out(
-        description.page as usize,
+        description.page_words as usize,
         registers,
         latches,
         decision,
@@ -308,7 +221,7 @@ pub fn page_view<'a>(
         return &general[..0];
     }
     views::page_in(
-        description.page as usize,
+        description.page_words as usize,
         general,
         auxiliary,
         part::place_at(description, address),

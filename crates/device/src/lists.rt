@@ -1,26 +1,26 @@
 // Lists of events: a run, up to its end, the limit, or the first answer 3 or 4.
-use crate::Answer;
-use crate::Carried;
 use crate::Ran;
-use crate::Registers;
 use crate::State;
+use carrying::Carried;
 use event::Decoded;
+use flash::ROW_WORDS;
 use part::Description;
+use rules::Answer;
+use rules::Registers;
 ghost use mathlib.Core.Bool.{true};
 ghost use mathlib.Core.Path.{_≡_};
 ghost use Prim.Native.Nat.{_+_, _*_, _/_, _%_, _<_, _≤_, min};
 ghost use lib.ListN.{length};
-ghost use Rattle.part.specs.Descriptions.{valid};
-ghost use Rattle.device.specs.CarryingOut.{leaves};
-ghost use Rattle.device.specs.Lists.{decodedOn, endsRun, traceOf, ranTo, told, goodList};
-ghost use Rattle.device.specs.Internals.{stateFrom, eventAt, stored};
+ghost use Rattle.carrying.specs.CarryingOut.{deviceFrom, leaves};
+ghost use Rattle.device.specs.States.{deviceOf};
+ghost use Rattle.device.specs.Lists.{decodedOn, endsRun, traceOf, ranTo, told, isGoodList};
+ghost use Rattle.device.specs.Internals.{eventAt, stored};
 
-// The most events of a list.
 const MOST_EVENTS: usize = 4096;
 
-// Whether a list of this length, with so many slots, can be run.
+// By the lengths of the list and of the slots.
 pub(crate) fn is_good_list(list: usize, slots: usize) -> bool
-    ensures { λ r. ⌜ r ≡ goodList list slots ⌝ }
+    ensures { λ r. ⌜ r ≡ isGoodList list slots ⌝ }
 {
     let whole = list % 3 == 0;
     let short = list / 3 <= MOST_EVENTS;
@@ -41,24 +41,23 @@ fn ends_run(number: u32) -> bool
 }
 
 // What three numbers of a list do to a good device: a malformed event is passed over.
-fn decoded(
+fn decoded_on(
     description: Description,
     registers: Registers,
-    latches: &mut [u32; 64],
+    latches: &mut [u32; ROW_WORDS],
     general: &mut [u32],
     auxiliary: &mut [u32],
     decoded: Decoded,
 ) -> Carried
-    requires { ⌜ valid description ≡ true ⌝ }
-    ensures { λ r. ⌜ leaves (r .answer) (stateFrom (r .registers) (now (latches .exit))) (now (general .exit)) (now (auxiliary .exit))
-        ≡ decodedOn description (stateFrom registers (now (latches .entry))) (now (general .entry)) (now (auxiliary .entry)) decoded ⌝ }
+    ensures { λ r. ⌜ leaves (r .answer) (deviceFrom (r .registers) (now (latches .exit)) (now (general .exit)) (now (auxiliary .exit)))
+        ≡ decodedOn description (deviceFrom registers (now (latches .entry)) (now (general .entry)) (now (auxiliary .entry))) decoded ⌝ }
 {
     match decoded {
         Decoded::Malformed => Carried {
             answer: Answer::MalformedEvent,
             registers,
         },
-        Decoded::WellFormed(event) => crate::happens(
+        Decoded::WellFormed(event) => crate::event_on(
             description,
             registers,
             latches,
@@ -90,20 +89,20 @@ fn store(slots: &mut [u32], index: usize, answer: Answer)
 fn listed(
     description: Description,
     registers: Registers,
-    latches: &mut [u32; 64],
+    latches: &mut [u32; ROW_WORDS],
     general: &mut [u32],
     auxiliary: &mut [u32],
     list: &[u32],
     slots: &mut [u32],
     index: usize,
 ) -> Carried
-    requires { ⌜ (valid description ≡ true) × (3 * index + 2 < length (now list)) × (2 * index + 1 < length (now slots)) ⌝ }
-    ensures { λ r. ⌜ leaves (r .answer) (stateFrom (r .registers) (now (latches .exit))) (now (general .exit)) (now (auxiliary .exit))
-        ≡ decodedOn description (stateFrom registers (now (latches .entry))) (now (general .entry)) (now (auxiliary .entry)) (eventAt (now (list .entry)) index) ⌝
+    requires { ⌜ (3 * index + 2 < length (now list)) × (2 * index + 1 < length (now slots)) ⌝ }
+    ensures { λ r. ⌜ leaves (r .answer) (deviceFrom (r .registers) (now (latches .exit)) (now (general .exit)) (now (auxiliary .exit)))
+        ≡ decodedOn description (deviceFrom registers (now (latches .entry)) (now (general .entry)) (now (auxiliary .entry))) (eventAt (now (list .entry)) index) ⌝
         ∗ ⌜ now (slots .exit) ≡ stored (now (slots .entry)) index (r .answer) ⌝ }
 {
-    let event = event_at(list, index);
-    let carried = decoded(description, registers, latches, general, auxiliary, event);
+    let decoded = event_at(list, index);
+    let carried = decoded_on(description, registers, latches, general, auxiliary, decoded);
     let answer = carried.answer;
     store(slots, index, answer);
     carried
@@ -129,9 +128,9 @@ pub(crate) fn run_events(
     slots: &mut [u32],
     limit: usize,
 ) -> Ran
-    requires { ⌜ (valid description ≡ true) × (goodList (length (now list)) (length (now slots)) ≡ true) ⌝ }
-    ensures { λ r. ⌜ ranTo (r .answer) (r .count) (r .state) (now (general .exit)) (now (auxiliary .exit)) (now (slots .exit))
-        ≡ told (now (slots .entry)) (traceOf description limit state (now (general .entry)) (now (auxiliary .entry)) (now (list .entry))) ⌝ }
+    requires { ⌜ (isGoodList (length (now list)) (length (now slots)) ≡ true) ⌝ }
+    ensures { λ r. ⌜ ranTo (r .answer) (r .count) (deviceOf (r .state) (now (general .exit)) (now (auxiliary .exit))) (now (slots .exit))
+        ≡ told (now (slots .entry)) (traceOf description limit (deviceOf state (now (general .entry)) (now (auxiliary .entry))) (now (list .entry))) ⌝ }
 {
     let total = least(limit, list.len() / 3);
     let mut registers = crate::registers_of(state);
@@ -153,8 +152,8 @@ pub(crate) fn run_events(
         registers = after;
         index += 1;
         if ends_run(answer.number()) {
-            return ended(index, crate::joined(registers, latches));
+            return ended(index, crate::state_from(registers, latches));
         }
     }
-    ended(index, crate::joined(registers, latches))
+    ended(index, crate::state_from(registers, latches))
 }

@@ -40,19 +40,19 @@ abbrev pub goodVectorNumber : ℕ → Bool
 goodVectorNumber v = leb v 253
 
 -- a byte that an event carries is a `u8` in the code, so only `decode` tests it
-unfoldable pub wellFormed : Event → Bool
-wellFormed Next = true
-wellFormed (FlowChange target) = goodAddress (target .0)
-wellFormed (Interrupt vector) = goodVectorNumber vector
-wellFormed (TableRead a) = goodAddress (a .0)
-wellFormed (TableWrite a word) = goodAddress (a .0) && goodWord word
-wellFormed (ProgramRow a) = goodAddress (a .0)
-wellFormed (ErasePage a) = goodAddress (a .0)
-wellFormed EraseGeneral = true
-wellFormed EraseAuxiliary = true
-wellFormed (ProgramFgs byte) = true
-wellFormed (ProgramFas byte) = true
-wellFormed PowerOn = true
+unfoldable pub isWellFormed : Event → Bool
+isWellFormed Next = true
+isWellFormed (FlowChange target) = goodAddress (target .0)
+isWellFormed (Interrupt vector) = goodVectorNumber vector
+isWellFormed (TableRead a) = goodAddress (a .0)
+isWellFormed (TableWrite a word) = goodAddress (a .0) && goodWord word
+isWellFormed (ProgramRow a) = goodAddress (a .0)
+isWellFormed (ErasePage a) = goodAddress (a .0)
+isWellFormed EraseGeneral = true
+isWellFormed EraseAuxiliary = true
+isWellFormed (ProgramFgs byte) = true
+isWellFormed (ProgramFas byte) = true
+isWellFormed PowerOn = true
 
 -- "In a list it is three numbers: kind, A, B; unused ones must be 0."
 abbrev pub given : Bool → Event → Decoded

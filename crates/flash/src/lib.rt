@@ -3,6 +3,7 @@ ghost use mathlib.Core.Path.{_≡_};
 ghost use Prim.Native.Nat.{_<_, _≤_};
 ghost use lib.ListN.{length, replicate};
 ghost use Rattle.flash.specs.Parts.{fits as fitsIn, startOf, blank};
+ghost use Rattle.flash.specs.Operations.{rowWords};
 ghost use Rattle.flash.specs.Internals.{ProgramWordPromise, ProgramWordsPromise};
 ghost use Rattle.flash.specs.Promises.{
   ReadWordPromise,
@@ -33,10 +34,10 @@ pub enum RangeErased {
 }
 
 // An erased word.
-const BLANK: u32 = 0xFFFFFF;
+pub const BLANK: u32 = 0xFFFFFF;
 
-// A row's words.
-const ROW: usize = 64;
+// One word for each write latch.
+pub const ROW_WORDS: usize = 64;
 
 // Whether count words from first on lie in an array of this length.
 fn fits(length: usize, first: usize, count: usize) -> bool
@@ -83,12 +84,12 @@ fn program_word(row: &mut [u32], index: usize, latch: u32) -> u32
 
 // All words of a row, from their latches: programmed in place; the value is the row's bits not set.
 fn program_words(row: &mut [u32], latches: &[u32]) -> u32
-    requires { ⌜ (length (now row) ≡ 64) × (length (now latches) ≡ 64) ⌝ }
+    requires { ⌜ (length (now row) ≡ rowWords) × (length (now latches) ≡ rowWords) ⌝ }
     ensures { λ r. ⌜ ProgramWordsPromise (now (row .entry)) (now (latches .entry)) r (now (row .exit)) ⌝ }
 {
     let mut not_set: u32 = 0;
     let mut index: usize = 0;
-    while index < ROW {
+    while index < ROW_WORDS {
         let latch = latches[index];
         not_set += program_word(row, index, latch);
         index += 1;
@@ -97,12 +98,12 @@ fn program_words(row: &mut [u32], latches: &[u32]) -> u32
 }
 
 // The aligned row that holds an index, programmed from the latches.
-pub fn program_row(flash: &mut [u32], index: usize, latches: &[u32; 64]) -> RowProgrammed
+pub fn program_row(flash: &mut [u32], index: usize, latches: &[u32; ROW_WORDS]) -> RowProgrammed
     ensures { λ r. ⌜ ProgramRowPromise (now (flash .entry)) index (now (latches .entry)) r (now (flash .exit)) ⌝ }
 {
-    let first = start_of(ROW, index);
-    if fits(flash.len(), first, ROW) {
-        let end = first + ROW;
+    let first = start_of(ROW_WORDS, index);
+    if fits(flash.len(), first, ROW_WORDS) {
+        let end = first + ROW_WORDS;
         RowProgrammed::BitsNotSet(program_words(&mut flash[first..end], latches))
     } else {
         RowProgrammed::NoRow
@@ -111,11 +112,11 @@ pub fn program_row(flash: &mut [u32], index: usize, latches: &[u32; 64]) -> RowP
 
 // The words of a row become blank: a length that the compiler knows makes wide stores of them.
 fn blank_row(row: &mut [u32])
-    requires { ⌜ length (now row) ≡ 64 ⌝ }
-    ensures { λ _. ⌜ now (row .exit) ≡ replicate 64 blank ⌝ }
+    requires { ⌜ length (now row) ≡ rowWords ⌝ }
+    ensures { λ _. ⌜ now (row .exit) ≡ replicate rowWords blank ⌝ }
 {
     let mut at: usize = 0;
-    while at < ROW {
+    while at < ROW_WORDS {
         row[at] = BLANK;
         at += 1;
     }
@@ -126,8 +127,8 @@ fn fill_blank(words: &mut [u32])
     ensures { λ _. ⌜ now (words .exit) ≡ replicate (length (now (words .entry))) blank ⌝ }
 {
     let mut at: usize = 0;
-    while ROW <= words.len() - at {
-        let end = at + ROW;
+    while ROW_WORDS <= words.len() - at {
+        let end = at + ROW_WORDS;
         blank_row(&mut words[at..end]);
         at = end;
     }

@@ -1,10 +1,10 @@
 -- Document 01, "The device" and "Who is running": where an address lies, whose code runs there, and which target it is.
 -- Assumes nothing.
-use Prim.Native.Nat.{ℕ, _-_}
+use Prim.Native.Nat.{ℕ, _+_, _-_}
 use mathlib.Core.Bool.{Bool, true, false, not, _&&_, _||_}
 use lib.Dec.{eqb, ltb, leb}
 use Rattle.measure.specs.Choice.{if_then_else_}
-use Rattle.measure.specs.Measures.{locationOf}
+use Rattle.measure.specs.Measures.{even, address, locationOf}
 use Rattle.measure.specs.declared.ProgramAddress.{ProgramAddress}
 use Rattle.measure.specs.declared.InstructionLocation.{InstructionLocation}
 use Rattle.fuse.specs.Byte.{levelOf, writeProtectionOf}
@@ -13,7 +13,6 @@ use Rattle.permission.specs.declared.Origin.the-variants.{FromGeneral, FromAuxi
 use Rattle.permission.specs.declared.Segment.{Segment}
 use Rattle.permission.specs.declared.Segment.the-variants.{General, Auxiliary, Vectors}
 use Rattle.permission.specs.declared.Target.{Target}
-use Rattle.measure.specs.Measures.{even}
 use Rattle.part.specs.Descriptions.{generalWords, auxiliaryWords}
 use Rattle.part.specs.declared.Description.{Description}
 use Rattle.part.specs.declared.FlashArray.{FlashArray}
@@ -27,16 +26,17 @@ use Rattle.part.specs.declared.Running.the-variants.{NotExecutable, Exec
 
 -- "AS ends with the word at 0x7FFFFE": the location after it, and the first of AS
 abbrev pub auxiliaryEnd : ℕ
-auxiliaryEnd = 0x400000
+auxiliaryEnd = locationOf (address 0x7FFFFE) .0 + 1
 
 abbrev pub auxiliaryFirst : Description → ℕ
 auxiliaryFirst d = auxiliaryEnd - auxiliaryWords d
 
--- "GS starts at 0x000000"; "Addresses in neither are unimplemented."
+-- "GS starts at 0x000000"; "Addresses in neither are unimplemented." Whatever a description says, nothing lies past the end of AS.
 unfoldable pub placeOf : Description → InstructionLocation → Place
 placeOf d l =
-    if ltb (l .0) (generalWords d) then InArray GeneralArray (l .0)
-    else if leb (auxiliaryFirst d) (l .0) && ltb (l .0) auxiliaryEnd then InArray AuxiliaryArray (l .0 - auxiliaryFirst d)
+    if not (ltb (l .0) auxiliaryEnd) then Unimplemented
+    else if ltb (l .0) (generalWords d) then InArray GeneralArray (l .0)
+    else if leb (auxiliaryFirst d) (l .0) then InArray AuxiliaryArray (l .0 - auxiliaryFirst d)
     else Unimplemented
 
 abbrev pub placeAt : Description → ProgramAddress → Place
@@ -65,8 +65,8 @@ runningIn pc (InArray GeneralArray n) =
 runningIn pc (InArray AuxiliaryArray n) = Executing FromAuxiliary
 
 -- "PC odd: not executable"
-unfoldable pub running : Description → ProgramAddress → Running
-running d pc = if even (pc .0) then runningIn pc (placeAt d pc) else NotExecutable
+unfoldable pub runningAt : Description → ProgramAddress → Running
+runningAt d pc = if even (pc .0) then runningIn pc (placeAt d pc) else NotExecutable
 
 abbrev pub fromGeneral : Origin → Bool
 fromGeneral FromGeneral = true

@@ -6,8 +6,8 @@ use Rattle.measure.specs.declared.ProgramAddress.{ProgramAddress}
 use Rattle.permission.specs.declared.Origin.{Origin}
 use Rattle.permission.specs.declared.Segment.{Segment}
 use Rattle.permission.specs.declared.Target.{Target}
-use Rattle.part.specs.Descriptions.{hasAuxiliary, valid, sized, bench}
-use Rattle.part.specs.Places.{placeAt, isImplemented, isAuxiliary, running, fromGeneral, segmentOf, targetOf}
+use Rattle.part.specs.Descriptions.{hasAuxiliary, isValid, isSized, bench}
+use Rattle.part.specs.Places.{placeAt, isImplemented, isAuxiliary, runningAt, fromGeneral, segmentOf, targetOf}
 use Rattle.part.specs.declared.Description.{Description}
 use Rattle.part.specs.declared.FlashArray.{FlashArray}
 use Rattle.part.specs.declared.Place.{Place}
@@ -20,10 +20,10 @@ abbrev pub HasAuxiliaryPromise : Description → Bool → Type 0
 HasAuxiliaryPromise description result = result ≡ hasAuxiliary description
 
 abbrev pub IsValidPromise : Description → Bool → Type 0
-IsValidPromise description result = result ≡ valid description
+IsValidPromise description result = result ≡ isValid description
 
 abbrev pub IsSizedPromise : Description → ℕ → ℕ → Bool → Type 0
-IsSizedPromise description general auxiliary result = result ≡ sized description general auxiliary
+IsSizedPromise description general auxiliary result = result ≡ isSized description general auxiliary
 
 abbrev pub PlaceAtPromise : Description → ProgramAddress → Place → Type 0
 PlaceAtPromise description address result = result ≡ placeAt description address
@@ -35,7 +35,7 @@ abbrev pub IsAuxiliaryPromise : Place → Bool → Type 0
 IsAuxiliaryPromise place result = result ≡ isAuxiliary place
 
 abbrev pub RunningAtPromise : Description → ProgramAddress → Running → Type 0
-RunningAtPromise description pc result = result ≡ running description pc
+RunningAtPromise description pc result = result ≡ runningAt description pc
 
 abbrev pub FromGeneralPromise : Origin → Bool → Type 0
 FromGeneralPromise origin result = result ≡ fromGeneral origin

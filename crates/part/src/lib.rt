@@ -7,7 +7,7 @@ use permission::Target;
 ghost use mathlib.Core.Path.{_≡_};
 ghost use Prim.Native.Nat.{_*_};
 ghost use Rattle.part.specs.Descriptions.{goodVector};
-ghost use Rattle.part.specs.Places.{auxiliaryFirst, placeOf, runningIn, byteOf};
+ghost use Rattle.part.specs.Places.{auxiliaryEnd, auxiliaryFirst, placeOf, runningIn, byteOf};
 ghost use Rattle.part.specs.Promises.{
   BenchPromise,
   HasAuxiliaryPromise,
@@ -22,18 +22,15 @@ ghost use Rattle.part.specs.Promises.{
   TargetOfPromise,
 };
 
-// What a part is.
 pub struct Description {
-    // The words of a page.
-    pub page: u32,
-    // The pages of the General Segment, vectors included.
-    pub general: u32,
-    // The pages of the Auxiliary Segment.
-    pub auxiliary: u32,
+    pub page_words: u32,
+    // Vectors included.
+    pub general_pages: u32,
+    pub auxiliary_pages: u32,
     // Whether the fuse bytes have key bits.
     pub keys: bool,
     // Where an interrupt goes while the Auxiliary Segment's code runs.
-    pub vector: ProgramAddress,
+    pub auxiliary_vector: ProgramAddress,
 }
 
 // One of the two lent flash arrays.
@@ -55,31 +52,29 @@ pub enum Running {
 }
 
 impl Description {
-    // The bench device's.
     pub fn bench() -> Self
         ensures { λ r. ⌜ BenchPromise r ⌝ }
     {
         Description {
-            page: 512,
-            general: 10,
-            auxiliary: 4,
+            page_words: 512,
+            general_pages: 10,
+            auxiliary_pages: 4,
             keys: true,
-            vector: ProgramAddress(0x7FFFEA),
+            auxiliary_vector: ProgramAddress(0x7FFFEA),
         }
     }
 }
 
-// Whether the part has an Auxiliary Segment.
 pub fn has_auxiliary(description: Description) -> bool
     ensures { λ r. ⌜ HasAuxiliaryPromise description r ⌝ }
 {
-    description.auxiliary != 0
+    description.auxiliary_pages != 0
 }
 
 fn good_vector(description: Description) -> bool
     ensures { λ r. ⌜ r ≡ goodVector description ⌝ }
 {
-    let vector = description.vector.0;
+    let vector = description.auxiliary_vector.0;
     if has_auxiliary(description) {
         (vector % 2 == 0) & (0x7FFFC0 <= vector) & (vector <= 0x7FFFFE)
     } else {
@@ -87,73 +82,74 @@ fn good_vector(description: Description) -> bool
     }
 }
 
-// Whether a description is good.
 pub fn is_valid(description: Description) -> bool
     ensures { λ r. ⌜ IsValidPromise description r ⌝ }
 {
-    let page = (description.page == 512) | (description.page == 1024);
-    let general = (1 <= description.general) & (description.general <= 64);
-    let auxiliary = description.auxiliary <= 16;
+    let page = (description.page_words == 512) | (description.page_words == 1024);
+    let general = (1 <= description.general_pages) & (description.general_pages <= 64);
+    let auxiliary = description.auxiliary_pages <= 16;
     page & general & auxiliary & good_vector(description)
 }
 
-// The words of so many pages.
 fn words(pages: u32, page: u32) -> usize
     ensures { λ r. ⌜ r ≡ pages * page ⌝ }
 {
     (pages as usize) * (page as usize)
 }
 
-// Whether arrays of these lengths are the description's.
+// Whether the description's arrays have these lengths.
 pub fn is_sized(description: Description, general: usize, auxiliary: usize) -> bool
     ensures { λ r. ⌜ IsSizedPromise description general auxiliary r ⌝ }
 {
-    (general == words(description.general, description.page))
-        & (auxiliary == words(description.auxiliary, description.page))
+    (general == words(description.general_pages, description.page_words))
+        & (auxiliary == words(description.auxiliary_pages, description.page_words))
 }
 
-// The location after the last of the Auxiliary Segment.
-const AUXILIARY_END: usize = 0x400000;
-
-// The words of the vector space.
 pub const VECTOR_WORDS: u32 = 256;
+
+// The location after the last of the Auxiliary Segment.
+fn auxiliary_end() -> usize
+    ensures { λ r. ⌜ r ≡ auxiliaryEnd ⌝ }
+{
+    let last = ProgramAddress(0x7FFFFE).location();
+    last.0 as usize + 1
+}
 
 fn auxiliary_first(description: Description) -> usize
     ensures { λ r. ⌜ r ≡ auxiliaryFirst description ⌝ }
 {
-    let auxiliary = words(description.auxiliary, description.page);
-    if auxiliary <= AUXILIARY_END {
-        AUXILIARY_END - auxiliary
-    } else {
-        0
-    }
+    let auxiliary = words(description.auxiliary_pages, description.page_words);
+    let end = auxiliary_end();
+    if auxiliary <= end { end - auxiliary } else { 0 }
 }
 
 fn place_of(description: Description, location: InstructionLocation) -> Place
     ensures { λ r. ⌜ r ≡ placeOf description location ⌝ }
 {
     let index = location.0 as usize;
-    let general = words(description.general, description.page);
+    let general = words(description.general_pages, description.page_words);
     let first = auxiliary_first(description);
+    let in_memory = index < auxiliary_end();
+    if !in_memory {
+        return Place::Unimplemented;
+    }
     let in_general = index < general;
     if in_general {
         return Place::InArray(FlashArray::GeneralArray, location.0);
     }
-    let in_auxiliary = (first <= index) & (index < AUXILIARY_END);
+    let in_auxiliary = first <= index;
     if in_auxiliary {
         return Place::InArray(FlashArray::AuxiliaryArray, (index - first) as u32);
     }
     Place::Unimplemented
 }
 
-// Where an address lies.
 pub fn place_at(description: Description, address: ProgramAddress) -> Place
     ensures { λ r. ⌜ PlaceAtPromise description address r ⌝ }
 {
     place_of(description, address.location())
 }
 
-// Whether there is memory.
 pub fn is_implemented(place: Place) -> bool
     ensures { λ r. ⌜ IsImplementedPromise place r ⌝ }
 {
@@ -163,7 +159,6 @@ pub fn is_implemented(place: Place) -> bool
     }
 }
 
-// Whether a place lies in the Auxiliary Segment.
 pub fn is_auxiliary(place: Place) -> bool
     ensures { λ r. ⌜ IsAuxiliaryPromise place r ⌝ }
 {
@@ -207,7 +202,6 @@ pub fn running_at(description: Description, pc: ProgramAddress) -> Running
     }
 }
 
-// Whether the General Segment's code asks.
 pub fn from_general(origin: Origin) -> bool
     ensures { λ r. ⌜ FromGeneralPromise origin r ⌝ }
 {

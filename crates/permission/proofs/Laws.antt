@@ -18,7 +18,7 @@ use Rattle.permission.specs.declared.Origin.the-variants.{FromGeneral, F
 use Rattle.permission.specs.declared.Segment.{Segment}
 use Rattle.permission.specs.declared.Segment.the-variants.{General, Auxiliary, Vectors}
 use Rattle.permission.specs.declared.Target.{Target}
-use Rattle.permission.specs.Table.{rowOf, allows, segmentColumn, levelColumn, protectionColumn, columnOf, rowNumber, printed}
+use Rattle.permission.specs.Table.{rowOf, allowed, segmentColumn, levelColumn, protectionColumn, columnOf, rowNumber, printed}
 
 pub row-lt : (operation : Operation) (origin : Origin) → rowNumber operation origin < 4
 row-lt Program FromAuxiliary = lit< tt
@@ -52,6 +52,6 @@ printed-row Read FromGeneral = refl
 
 -- a table that is the printed one, which its whole computation tests, answers each look-up as table 23-1 does
 pub cell : (table : List (List Bool)) → table ≡ printed → (operation : Operation) (origin : Origin) (target : Target) {row column : ℕ}
-    → row ≡ rowNumber operation origin → column ≡ columnOf target → getD (getD table row []) column false ≡ allows operation origin target
-unfolding allows
+    → row ≡ rowNumber operation origin → column ≡ columnOf target → getD (getD table row []) column false ≡ allowed operation origin target
+unfolding allowed
 cell table e operation origin target r k = rw (e, r, k, printed-row operation origin)

@@ -50,8 +50,8 @@ abbrev pub columnOf : Target → ℕ
 columnOf target = segmentColumn (target .segment) + levelColumn (target .level) + protectionColumn (target .protection)
 
 -- the cell
-unfoldable pub allows : Operation → Origin → Target → Bool
-allows operation origin target = getD (rowOf operation origin) (columnOf target) No
+unfoldable pub allowed : Operation → Origin → Target → Bool
+allowed operation origin target = getD (rowOf operation origin) (columnOf target) No
 
 -- document 01, "Lists, printed table, page view": the order in which the four rows are printed and kept
 abbrev pub rowNumber : Operation → Origin → ℕ

@@ -12,13 +12,13 @@ use lib.Seq.{drop-length, take-all}
 use lib.Dec.{eqb}
 use Rattle.measure.specs.Choice.{if_then_else_}
 use Rattle.measure.specs.Tests.{byValue}
-use Rattle.part.specs.Descriptions.{valid, sized}
+use Rattle.part.specs.Descriptions.{isValid}
 use Rattle.event.specs.Events.{decode}
-use Rattle.device.specs.CarryingOut.{Left}
+use Rattle.carrying.specs.CarryingOut.{Device}
+use Rattle.device.specs.OneEvent.{isSizedFor}
 use Rattle.device.specs.Lists.{RunLeft, run, traceOf, decodedOn, endsRun}
 use Rattle.pinionclay.specs.Calls.{StepNumbers, stepNumbers, stepOf}
 use Rattle.part.specs.declared.Description.{Description}
-use Rattle.device.specs.declared.State.{State}
 
 -- the first words of one list, and then the other's
 abbrev pub copied : ℕ → List ℕ → List ℕ → List ℕ
@@ -65,22 +65,21 @@ written-length numbers a b c d e latches h k = rw (written-is numbers a b c d e 
 abbrev pub readOff : List ℕ → RunLeft → StepNumbers
 readOff numbers l =
     if eqb (l .count) 0
-    then record { number = l .number; state = numbers; general = l .general; auxiliary = l .auxiliary; value = 0 }
-    else stepNumbers numbers
-    record {
-      number = getD (l .slots) 0 0;
-      value = getD (l .slots) 1 0;
-      state = l .state;
-      general = l .general;
-      auxiliary = l .auxiliary;
+    then record {
+      number = l .number;
+      state = numbers;
+      general = l .device .general;
+      auxiliary = l .device .auxiliary;
+      value = 0;
     }
+    else stepNumbers numbers (record { number = getD (l .slots) 0 0; value = getD (l .slots) 1 0; device = l .device })
 
-pub one-event : (numbers : List ℕ) (d : Description) (s : State) (g x : List ℕ) (kind a b : ℕ)
-    → readOff numbers (run d s g x (kind ∷ a ∷ b ∷ []) (0 ∷ 0 ∷ []) 1) ≡ stepNumbers numbers (stepOf d s g x kind a b)
+pub one-event : (numbers : List ℕ) (d : Description) (device : Device) (kind a b : ℕ)
+    → readOff numbers (run d device (kind ∷ a ∷ b ∷ []) (0 ∷ 0 ∷ []) 1) ≡ stepNumbers numbers (stepOf d device kind a b)
 unfolding run traceOf stepOf
-one-event numbers d s g x kind a b =
-    byValue (valid d)
-    (λ v. byValue (sized d (length g) (length x))
-    (λ z. byValue (endsRun ((decodedOn d s g x (decode kind a b)) .number)) (λ e. rw (v, z, e)) (λ e. rw (v, z, e)))
+one-event numbers d device kind a b =
+    byValue (isValid d)
+    (λ v. byValue (isSizedFor d device)
+    (λ z. byValue (endsRun (decodedOn d device (decode kind a b) .number)) (λ e. rw (v, z, e)) (λ e. rw (v, z, e)))
     (λ z. rw (v, z)))
     (λ v. rw v)

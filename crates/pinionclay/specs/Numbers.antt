@@ -19,11 +19,11 @@ isSet number = not (eqb number 0)
 abbrev pub descriptionOf : List ℕ → Description
 descriptionOf numbers =
     record {
-      page = getD numbers 0 0;
-      general = getD numbers 1 0;
-      auxiliary = getD numbers 2 0;
+      «page_words» = getD numbers 0 0;
+      «general_pages» = getD numbers 1 0;
+      «auxiliary_pages» = getD numbers 2 0;
       keys = isSet (getD numbers 3 0);
-      vector = address (getD numbers 4 0);
+      «auxiliary_vector» = address (getD numbers 4 0);
     }
 
 -- "PC, IOPUWR, stopped, FGS, FAS, then the 64 latches"; "a byte is the number's low 8 bits"

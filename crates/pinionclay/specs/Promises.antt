@@ -7,13 +7,13 @@ use Rattle.pinionclay.specs.Calls.{runLeaves, pinionclayRun, stepLeaves,
 -- the result, the state, both arrays, the slots and the count at exit
 abbrev pub PinionclayRunPromise :
     List ℕ → List ℕ → List ℕ → List ℕ → List ℕ → ℕ → List ℕ → ℕ → List ℕ → List ℕ → List ℕ → List ℕ → ℕ → Type 0
-PinionclayRunPromise description s g x events limit slots result state general auxiliary exit count =
-    runLeaves result state general auxiliary exit count
-    ≡ pinionclayRun description s g x events limit slots
+PinionclayRunPromise description numbers general auxiliary events limit slots result numbers′ general′ auxiliary′ slots′ count =
+    runLeaves result numbers′ general′ auxiliary′ slots′ count
+    ≡ pinionclayRun description numbers general auxiliary events limit slots
 
 -- the result, the state, both arrays and the value at exit
 abbrev pub PinionclayStepPromise :
     List ℕ → List ℕ → List ℕ → List ℕ → ℕ → ℕ → ℕ → ℕ → List ℕ → List ℕ → List ℕ → ℕ → Type 0
-PinionclayStepPromise description s g x kind a b result state general auxiliary value =
-    stepLeaves result state general auxiliary value
-    ≡ pinionclayStep description s g x kind a b
+PinionclayStepPromise description numbers general auxiliary kind a b result numbers′ general′ auxiliary′ value =
+    stepLeaves result numbers′ general′ auxiliary′ value
+    ≡ pinionclayStep description numbers general auxiliary kind a b

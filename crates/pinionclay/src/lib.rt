@@ -1,5 +1,6 @@
 // The static library: the device over plain numbers, for programs in C and Rust. include/pinionclay.h is its header.
 use device::State;
+use flash::ROW_WORDS;
 use measure::ProgramAddress;
 use part::Description;
 ghost use mathlib.Core.Path.{_≡_};
@@ -8,11 +9,10 @@ ghost use Rattle.pinionclay.specs.Numbers.{flagNumber, descriptionOf, st
 ghost use Rattle.pinionclay.specs.Calls.{written};
 ghost use Rattle.pinionclay.specs.Promises.{PinionclayRunPromise, PinionclayStepPromise};
 
-// The numbers of a state before its latches.
+// PC, IOPUWR, stopped, FGS, FAS; the latches come after them.
 const REGISTERS: usize = 5;
 
-// The numbers of a state.
-const NUMBERS: usize = 69;
+const NUMBERS: usize = REGISTERS + ROW_WORDS;
 
 fn flag_number(set: bool) -> u32
     ensures { λ r. ⌜ r ≡ flagNumber set ⌝ }
@@ -36,11 +36,11 @@ fn description_of(numbers: &[u32; 5]) -> Description
     ensures { λ r. ⌜ r ≡ descriptionOf (now (numbers .entry)) ⌝ }
 {
     Description {
-        page: numbers[0],
-        general: numbers[1],
-        auxiliary: numbers[2],
+        page_words: numbers[0],
+        general_pages: numbers[1],
+        auxiliary_pages: numbers[2],
         keys: numbers[3] != 0,
-        vector: ProgramAddress(numbers[4]),
+        auxiliary_vector: ProgramAddress(numbers[4]),
     }
 }
 
@@ -48,7 +48,7 @@ fn state_of(numbers: &[u32]) -> State
     requires { ⌜ length (now numbers) ≡ 69 ⌝ }
     ensures { λ r. ⌜ r ≡ stateOf (now (numbers .entry)) ⌝ }
 {
-    let mut latches = [0u32; 64];
+    let mut latches = [0u32; ROW_WORDS];
     copy(&numbers[REGISTERS..NUMBERS], &mut latches);
     State {
         pc: ProgramAddress(numbers[0]),

@@ -1,5 +1,5 @@
 -- `event::is_well_formed` meets its contract. Assumes nothing.
-use Rattle.event.specs.Events.{wellFormed}
+use Rattle.event.specs.Events.{isWellFormed}
 use borrow.Author.Needs.{needs}
 use Rattle.event.proofs.is_well_formed.Statement.{statement}
 use Rattle.event.proofs.is_well_formed.Tie as tie
@@ -56,51 +56,51 @@ enum-told-6 : tie.Need-enum-told-6
 enum-told-6 c = search needs
 
 returns : tie.Need-returns
-unfolding wellFormed
+unfolding isWellFormed
 returns c = rw (c .enum-told .given .1)
 
 returns-2 : tie.Need-returns-2
-unfolding wellFormed
+unfolding isWellFormed
 returns-2 c = rw (c .before .before .event .given .1, ← c .good-address .ensures)
 
 returns-3 : tie.Need-returns-3
-unfolding wellFormed
+unfolding isWellFormed
 returns-3 c = rw (c .before .event2 .given .1)
 
 returns-4 : tie.Need-returns-4
-unfolding wellFormed
+unfolding isWellFormed
 returns-4 c = rw (c .before .before .event3 .given .1, ← c .good-address2 .ensures)
 
 returns-5 : tie.Need-returns-5
-unfolding wellFormed
+unfolding isWellFormed
 returns-5 c = rw (c .before .before .event4 .given .1, ← c .good-address3 .ensures)
 
 returns-6 : tie.Need-returns-6
-unfolding wellFormed
+unfolding isWellFormed
 returns-6 c = rw (c .before .before .event5 .given .1, ← c .good-address4 .ensures)
 
 returns-7 : tie.Need-returns-7
-unfolding wellFormed
+unfolding isWellFormed
 returns-7 c = rw (c .before .before .event6 .given .1, ← c .good-address5 .ensures)
 
 returns-8 : tie.Need-returns-8
-unfolding wellFormed
+unfolding isWellFormed
 returns-8 c = rw (c .enum-told2 .given .1)
 
 returns-9 : tie.Need-returns-9
-unfolding wellFormed
+unfolding isWellFormed
 returns-9 c = rw (c .enum-told3 .given .1)
 
 returns-10 : tie.Need-returns-10
-unfolding wellFormed
+unfolding isWellFormed
 returns-10 c = rw (c .enum-told4 .given .1)
 
 returns-11 : tie.Need-returns-11
-unfolding wellFormed
+unfolding isWellFormed
 returns-11 c = rw (c .enum-told5 .given .1)
 
 returns-12 : tie.Need-returns-12
-unfolding wellFormed
+unfolding isWellFormed
 returns-12 c = rw (c .enum-told6 .given .1)
 
 pub is-well-formed-spec : {M : Type 1} → statement M

@@ -1,5 +1,5 @@
 -- `part::is_valid` meets its contract. Assumes nothing.
-use Rattle.part.specs.Descriptions.{valid}
+use Rattle.part.specs.Descriptions.{isValid}
 use borrow.Author.Needs.{needs}
 use Rattle.part.proofs.is_valid.Statement.{statement}
 use Rattle.part.proofs.is_valid.Tie as tie
@@ -8,7 +8,7 @@ good-vector-requires : tie.Need-good-vector-requires
 good-vector-requires c κs = search needs
 
 returns : tie.Need-returns
-unfolding valid
+unfolding isValid
 returns c = cc
 
 pub is-valid-spec : {M : Type 1} → statement M

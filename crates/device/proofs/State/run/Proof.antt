@@ -37,7 +37,7 @@ unfolding run
 returns-3 c = rw (← c .before .before .before .before .before .before .is-valid .ensures, c .before .before .before .before .before .if1 .left, ← c .before .before .before .before .is-sized .ensures, c .before .before .before .if2 .left, ← c .before .before .is-good-list .ensures, c .before .if3 .taken, c .not-run3 .ensures)
 
 run-events-requires : tie.Need-run-events-requires
-run-events-requires c κs = (sym (c .before .before .before .before .before .before .before .before .is-valid .ensures) ∙ not-false _ (c .before .before .before .before .before .before .before .if1 .left), sym (c .before .before .before .before .is-good-list .ensures) ∙ not-false _ (c .before .before .before .if3 .left))
+run-events-requires c κs = sym (c .before .before .before .before .is-good-list .ensures) ∙ not-false _ (c .before .before .before .if3 .left)
 
 same-length : tie.Need-same-length
 same-length c = search needs

@@ -1,6 +1,4 @@
 -- `device::State::step` meets its contract: the checks in document 01's order. Assumes nothing.
-use mathlib.Core.Path.{sym, _∙_}
-use borrow.Author.Tests.{not-false}
 use Rattle.device.specs.OneEvent.{step}
 use borrow.Author.Needs.{needs}
 use Rattle.device.proofs.State.step.Statement.{statement}
@@ -39,11 +37,11 @@ returns-3 c = rw (← c .before .before .before .before .before .before .is-vali
 registers-of-requires : tie.Need-registers-of-requires
 registers-of-requires c κs = search needs
 
-happens-requires : tie.Need-happens-requires
-happens-requires c κs = sym (c .before .before .before .before .before .before .before .before .before .before .is-valid .ensures) ∙ not-false _ (c .before .before .before .before .before .before .before .before .before .if1 .left)
+event-on-requires : tie.Need-event-on-requires
+event-on-requires c κs = search needs
 
-joined-requires : tie.Need-joined-requires
-joined-requires c κs = search needs
+state-from-requires : tie.Need-state-from-requires
+state-from-requires c κs = search needs
 
 same-length : tie.Need-same-length
 same-length c = search needs
@@ -54,8 +52,8 @@ same-length-2 c = search needs
 returns-4 : tie.Need-returns-4
 unfolding step
 returns-4 c =
-    rw (← c .before .before .before .before .before .before .before .before .before .before .before .before .before .before .before .before .before .is-valid .ensures, c .before .before .before .before .before .before .before .before .before .before .before .before .before .before .before .before .if1 .left, ← c .before .before .before .before .before .before .before .before .before .before .before .before .before .before .before .is-sized .ensures, c .before .before .before .before .before .before .before .before .before .before .before .before .before .before .if2 .left, ← c .before .before .before .before .before .before .before .before .before .before .before .before .before .is-well-formed .ensures, c .before .before .before .before .before .before .before .before .before .before .before .before .if3 .left, c .joined .ensures)
-    (rw (c .before .before .before .before .before .before .before .before .before .before .registers-of .ensures) at (c .before .before .before .before .before .before .happens .ensures))
+    rw (← c .before .before .before .before .before .before .before .before .before .before .before .before .before .before .before .before .before .is-valid .ensures, c .before .before .before .before .before .before .before .before .before .before .before .before .before .before .before .before .if1 .left, ← c .before .before .before .before .before .before .before .before .before .before .before .before .before .before .before .is-sized .ensures, c .before .before .before .before .before .before .before .before .before .before .before .before .before .before .if2 .left, ← c .before .before .before .before .before .before .before .before .before .before .before .before .before .is-well-formed .ensures, c .before .before .before .before .before .before .before .before .before .before .before .before .if3 .left, c .state-from .ensures)
+    (rw (c .before .before .before .before .before .before .before .before .before .before .registers-of .ensures) at (c .before .before .before .before .before .before .event-on .ensures))
 
 pub step-spec : {M : Type 1} → statement M
 step-spec =
@@ -71,8 +69,8 @@ step-spec =
     refused-requires-3
     returns-3
     registers-of-requires
-    happens-requires
-    joined-requires
+    event-on-requires
+    state-from-requires
     same-length
     same-length-2
     returns-4)

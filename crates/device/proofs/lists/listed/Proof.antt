@@ -6,8 +6,8 @@ use Rattle.device.proofs.lists.listed.Tie as tie
 event-at-requires : tie.Need-event-at-requires
 event-at-requires c κs = search needs
 
-decoded-requires : tie.Need-decoded-requires
-decoded-requires c κs = search needs
+decoded-on-requires : tie.Need-decoded-on-requires
+decoded-on-requires c κs = search needs
 
 store-requires : tie.Need-store-requires
 store-requires c κs = search needs
@@ -22,14 +22,14 @@ same-length-3 : tie.Need-same-length-3
 same-length-3 c = search needs
 
 returns : tie.Need-returns
-returns c = (rw (← c .before .before .before .before .before .before .before .before .before .before .before .before .event-at .ensures) (c .before .before .before .before .before .before .before .before .decoded .ensures), c .before .before .store .ensures)
+returns c = (rw (← c .before .before .before .before .before .before .before .before .before .before .before .before .event-at .ensures) (c .before .before .before .before .before .before .before .before .decoded-on .ensures), c .before .before .store .ensures)
 
 pub listed-spec : {M : Type 1} → statement M
 listed-spec =
     tie.close
     (tie.spec
     event-at-requires
-    decoded-requires
+    decoded-on-requires
     store-requires
     same-length
     same-length-2

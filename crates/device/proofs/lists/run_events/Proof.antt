@@ -5,7 +5,7 @@ use native.Mathlib.Nat.{sub-zero}
 use native.Mathlib.Omega.{arith}
 use borrow.Author.Needs.{needs}
 use lib.ListN.{length, drop}
-use Rattle.device.specs.Internals.{stateFrom}
+use Rattle.carrying.specs.CarryingOut.{deviceFrom}
 use Rattle.device.specs.Lists.{traceOf, endsRun}
 use Rattle.device.proofs.Runs.{joined, joined-none, joined-start, trace-end, turn-on, turn-stop, list-whole, list-room}
 use Rattle.device.proofs.lists.run_events.Statement.{statement}
@@ -14,8 +14,8 @@ use Rattle.device.proofs.lists.run_events.Tie as tie
 abbrev Inv-loop : tie.InvT-loop
 Inv-loop description general₀ auxiliary₀ list slots₀ limit total registers₀ latches₀ index₀ general auxiliary slots registers latches index =
     (index ≤ total) × (length general ≡ length general₀) × (length auxiliary ≡ length auxiliary₀) × (length slots ≡ length slots₀)
-    × (joined index slots (traceOf description (limit - index) (stateFrom registers latches) general auxiliary (drop (3 * index) list))
-    ≡ joined 0 slots₀ (traceOf description limit (stateFrom registers₀ latches₀) general₀ auxiliary₀ list))
+    × (joined index slots (traceOf description (limit - index) (deviceFrom registers latches general auxiliary) (drop (3 * index) list))
+    ≡ joined 0 slots₀ (traceOf description limit (deviceFrom registers₀ latches₀ general₀ auxiliary₀) list))
 
 abbrev μ-loop : tie.MeasureT-loop
 μ-loop description general₀ auxiliary₀ list slots₀ limit total registers₀ latches₀ index₀ general auxiliary slots registers latches index = total - index
@@ -33,9 +33,8 @@ listed-requires : tie.Need-listed-requires Inv-loop μ-loop
 listed-requires c κs =
     let test = c .before .before .before .before .loop-test .taken in
     let least = c .before .before .before .before .before .before .before .before .least .ensures in (
-      c .before .before .before .before .before .before .before .before .before .before .before .before .before .pre .0,
       omega (arith, test, least),
-      omega (arith, test, least, c .before .before .before .before .before .loop .inv .3, list-room (length (c .before .before .before .before .before .before .before .before .before .before .before .before .before .args .list .now)) (length (c .before .before .before .before .before .before .before .before .before .before .before .before .before .args .slots .now)) (c .before .before .before .before .before .before .before .before .before .before .before .before .before .pre .1)),
+      omega (arith, test, least, c .before .before .before .before .before .loop .inv .3, list-room (length (c .before .before .before .before .before .before .before .before .before .before .before .before .before .args .list .now)) (length (c .before .before .before .before .before .before .before .before .before .before .before .before .before .args .slots .now)) (c .before .before .before .before .before .before .before .before .before .before .before .before .before .pre)),
     )
 
 add-index : tie.Need-add-index Inv-loop μ-loop
@@ -47,8 +46,8 @@ number-requires c κs = search needs
 ends-run-requires : tie.Need-ends-run-requires Inv-loop μ-loop
 ends-run-requires c κs = search needs
 
-joined-requires : tie.Need-joined-requires Inv-loop μ-loop
-joined-requires c κs = search needs
+state-from-requires : tie.Need-state-from-requires Inv-loop μ-loop
+state-from-requires c κs = search needs
 
 ended-requires : tie.Need-ended-requires Inv-loop μ-loop
 ended-requires c κs = search needs
@@ -67,11 +66,11 @@ returns c =
     let a = c .before .before .before .before .before .before .before .before .before .before .before .before .before .before .before .before .before .before .before .before .before .before .before .before .before .before .args in
     let loop = c .before .before .before .before .before .before .before .before .before .before .before .before .before .before .before .before .before .before .loop in
     let done = c .before .before .before .before .before .before .before .before .before .before .before .before .listed in
-    let h = c .before .before .before .before .before .before .before .before .before .before .before .before .before .before .before .before .before .before .before .before .before .before .before .before .before .before .pre .1 in
-    rw (c .ended .ensures, c .before .joined .ensures)
-    (turn-stop _ _ _ _ _ _ _ (a .list .now) (loop .slots) (done .result .answer) _ _ _ _ _ (c .before .before .before .before .before .before .before .before .before .before .before .before .before .before .before .before .before .loop-test .taken) (c .before .before .before .before .before .before .before .before .before .before .before .before .before .before .before .before .before .before .before .before .before .least .ensures) (list-whole _ _ h)
+    let h = c .before .before .before .before .before .before .before .before .before .before .before .before .before .before .before .before .before .before .before .before .before .before .before .before .before .before .pre in
+    rw (c .ended .ensures, c .before .state-from .ensures)
+    (turn-stop _ _ _ _ _ (a .list .now) (loop .slots) (done .result .answer) _ _ _ (c .before .before .before .before .before .before .before .before .before .before .before .before .before .before .before .before .before .loop-test .taken) (c .before .before .before .before .before .before .before .before .before .before .before .before .before .before .before .before .before .before .before .before .before .least .ensures) (list-whole _ _ h)
     (done .ensures .0) (done .ensures .1) (loop .inv .4) (ap endsRun (sym (c .before .before .before .before .number .ensures)) ∙ sym (c .before .before .before .ends-run .ensures) ∙ c .before .before .if1 .taken)
-    ∙ rw (c .before .before .before .before .before .before .before .before .before .before .before .before .before .before .before .before .before .before .before .before .registers-of .ensures) (joined-start _ _ _ _ _ _ _ h))
+    ∙ rw (c .before .before .before .before .before .before .before .before .before .before .before .before .before .before .before .before .before .before .before .before .registers-of .ensures) (joined-start _ _ _ _ _ h))
 
 loop-less : tie.Need-loop-less Inv-loop μ-loop
 loop-less c = search needs
@@ -86,12 +85,12 @@ loop-again c =
       done .kept .1 .1 .1 .0 ∙ loop .inv .1,
       done .kept .1 .1 .1 .1 .0 ∙ loop .inv .2,
       done .kept .1 .1 .1 .1 .1 .1 .0 ∙ loop .inv .3,
-      turn-on _ _ _ _ _ _ _ (a .list .now) (loop .slots) (done .result .answer) _ _ _ _ _ test (c .before .before .before .before .before .before .before .before .before .before .before .before .before .before .before .before .before .before .before .least .ensures) (list-whole _ _ (c .before .before .before .before .before .before .before .before .before .before .before .before .before .before .before .before .before .before .before .before .before .before .before .before .pre .1))
+      turn-on _ _ _ _ _ (a .list .now) (loop .slots) (done .result .answer) _ _ _ test (c .before .before .before .before .before .before .before .before .before .before .before .before .before .before .before .before .before .before .before .least .ensures) (list-whole _ _ (c .before .before .before .before .before .before .before .before .before .before .before .before .before .before .before .before .before .before .before .before .before .before .before .before .pre))
           (done .ensures .0) (done .ensures .1) (loop .inv .4) (ap endsRun (sym (c .before .before .number .ensures)) ∙ sym (c .before .ends-run .ensures) ∙ c .if1 .left),
     )
 
-joined-requires-2 : tie.Need-joined-requires-2 Inv-loop μ-loop
-joined-requires-2 c κs = search needs
+state-from-requires-2 : tie.Need-state-from-requires-2 Inv-loop μ-loop
+state-from-requires-2 c κs = search needs
 
 ended-requires-2 : tie.Need-ended-requires-2 Inv-loop μ-loop
 ended-requires-2 c κs = search needs
@@ -109,12 +108,12 @@ returns-2 : tie.Need-returns-2 Inv-loop μ-loop
 returns-2 c =
     let a = c .before .before .before .before .before .before .before .before .before .before .before .args in
     let loop = c .before .before .before .loop in
-    let h = c .before .before .before .before .before .before .before .before .before .before .before .pre .1 in
-    let state = stateFrom (loop .registers) (loop .latches) in
-    rw (c .ended2 .ensures, c .before .joined2 .ensures)
-    (sym (joined-none (loop .index) (loop .slots) state (loop .general) (loop .auxiliary))
-    ∙ ap (joined (loop .index) (loop .slots)) (sym (trace-end _ (a .limit) (loop .index) state (loop .general) (loop .auxiliary) (a .list .now) (list-whole _ _ h) (omega arith)))
-    ∙ loop .inv .4 ∙ rw (c .before .before .before .before .before .registers-of .ensures) (joined-start _ _ _ _ _ _ _ h))
+    let h = c .before .before .before .before .before .before .before .before .before .before .before .pre in
+    let device = deviceFrom (loop .registers) (loop .latches) (loop .general) (loop .auxiliary) in
+    rw (c .ended2 .ensures, c .before .state-from2 .ensures)
+    (sym (joined-none (loop .index) (loop .slots) device)
+    ∙ ap (joined (loop .index) (loop .slots)) (sym (trace-end _ (a .limit) (loop .index) device (a .list .now) (list-whole _ _ h) (omega arith)))
+    ∙ loop .inv .4 ∙ rw (c .before .before .before .before .before .registers-of .ensures) (joined-start _ _ _ _ _ h))
 
 pub run-events-spec : {M : Type 1} → statement M
 run-events-spec =
@@ -129,7 +128,7 @@ run-events-spec =
     add-index
     number-requires
     ends-run-requires
-    joined-requires
+    state-from-requires
     ended-requires
     same-length
     same-length-2
@@ -137,7 +136,7 @@ run-events-spec =
     returns
     loop-less
     loop-again
-    joined-requires-2
+    state-from-requires-2
     ended-requires-2
     same-length-4
     same-length-5

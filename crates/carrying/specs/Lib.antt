@@ -1,0 +1,4 @@
+pub mod CarryingOut
+pub mod Promises
+pub mod Alike
+pub mod Carried

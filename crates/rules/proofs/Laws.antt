@@ -1,0 +1,74 @@
+-- The laws of `specs/`: code that runs lies in memory, and the word of a vector. Assumes nothing.
+use mathlib.Core.Path.{_≡_, refl}
+use mathlib.Core.Bool.{Bool, true, false, not, false≢true}
+use mathlib.Core.List.{List}
+use Prim.Native.Nat.{ℕ, _+_, _*_, _/_, _<_}
+use native.Mathlib.Omega.{arith}
+use borrow.Author.Tests.{ltb-true, ltb-false, not-false}
+use lib.Dec.{ltb, leb}
+use lib.ListN.{length, getD, List·getD-eq-default}
+use Rattle.measure.specs.Choice.{if_then_else_}
+use Rattle.measure.specs.Tests.{byTest}
+use Rattle.measure.specs.Measures.{even, locationOf}
+use Rattle.measure.specs.declared.ProgramAddress.{ProgramAddress}
+use Rattle.measure.specs.declared.InstructionLocation.{InstructionLocation}
+use Rattle.measure.specs.Words.{wordOf}
+use Rattle.flash.specs.Operations.{readWord}
+use Rattle.flash.specs.declared.WordFound.the-variants.{Word, NoWord}
+use Rattle.permission.specs.declared.Origin.{Origin}
+use Rattle.part.specs.Descriptions.{generalWords}
+use Rattle.part.specs.Places.{auxiliaryEnd, auxiliaryFirst, placeOf, placeAt, isImplemented, runningIn, runningAt}
+use Rattle.part.specs.declared.Description.{Description}
+use Rattle.part.specs.declared.Place.{Place}
+use Rattle.part.specs.declared.Place.the-variants.{Unimplemented, InArray}
+use Rattle.part.specs.declared.Running.{Running}
+use Rattle.part.specs.declared.Running.the-variants.{NotExecutable, Executing}
+use Rattle.rules.specs.Internals.{wordOrZero}
+
+-- ---- code that runs lies in memory, whatever the description
+
+module _ (d : Description) where
+  implemented-lt : (l : InstructionLocation) → isImplemented (placeOf d l) ≡ true → l .0 < auxiliaryEnd
+  unfolding placeOf
+  implemented-lt l =
+      byTest Below (not (ltb (l .0) auxiliaryEnd)) (λ _ e. absurd (false≢true e))
+      (λ t. byTest Below (ltb (l .0) (generalWords d)) (λ _ e. below t)
+      (λ _. byTest Below (leb (auxiliaryFirst d) (l .0)) (λ _ e. below t) (λ _ e. absurd (false≢true e))))
+    where
+      Below : Place → Type 0
+      Below place = isImplemented place ≡ true → l .0 < auxiliaryEnd
+
+      below : not (ltb (l .0) auxiliaryEnd) ≡ false → l .0 < auxiliaryEnd
+      below t = ltb-true (l .0) auxiliaryEnd (not-false _ t)
+
+  not-executing : {A : Type 0} {origin : Origin} → NotExecutable ≡ Executing origin → A
+  not-executing {A} {origin} e = let z : _≡_ {A = ℕ} 0 1 = cc in absurd (omega arith)
+
+  executing-in : (pc : ProgramAddress) (place : Place) {origin : Origin} → runningIn pc place ≡ Executing origin → isImplemented place ≡ true
+  executing-in pc Unimplemented e = not-executing e
+  executing-in pc (InArray array n) e = refl
+
+  pub executing-lt : (pc : ProgramAddress) {origin : Origin} → runningAt d pc ≡ Executing origin → pc .0 < 0x800000
+  unfolding runningAt
+  executing-lt pc {origin} =
+      byTest Low (even (pc .0))
+      (λ _ e. omega (arith, implemented-lt (locationOf pc) (executing-in pc (placeAt d pc) e)))
+      (λ _ e. not-executing e)
+    where
+      Low : Running → Type 0
+      Low r = r ≡ Executing origin → pc .0 < 0x800000
+
+-- ---- the word of a vector
+
+pub word-or-zero : (flash : List ℕ) (n : ℕ) → wordOrZero (readWord flash n) ≡ wordOf (getD flash n 0)
+unfolding readWord
+word-or-zero flash n = go (ltb n (length flash)) refl
+  where
+    go : (t : Bool) → ltb n (length flash) ≡ t
+        → wordOrZero (if ltb n (length flash) then Word (wordOf (getD flash n 0)) else NoWord) ≡ wordOf (getD flash n 0)
+    go true e = rw e
+    go false e = rw (e, List·getD-eq-default flash 0 (ltb-false n (length flash) e))
+
+-- the word at 0x000004 + 2 × vector is the second after the vectors' start, and so on
+pub vector-index : (vector : ℕ) → (0x000004 + 2 * vector) / 2 ≡ 2 + vector
+vector-index vector = omega arith
