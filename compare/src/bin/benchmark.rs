@@ -20,6 +20,7 @@ const BENCH: [u32; 5] = [512, 10, 4, 1, 0x7F_FFEA];
 const LARGEST: [u32; 5] = [1024, 64, 16, 1, 0x7F_FFEA];
 
 fn main() {
+    require_fine_clock();
     println!("{EVENTS} events a list, best of {ROUNDS} rounds each, in turn; ns an event");
     println!("list                            library     model     ratio      fill");
     let mut checksum = 0;
@@ -27,6 +28,19 @@ fn main() {
         checksum += report(name, &scenario, filled);
     }
     println!("checksum of all answers and fills: {checksum:#x}");
+}
+
+/// Stops where this core's clock is too coarse for a round, as on some virtual machines.
+fn require_fine_clock() {
+    let start = Instant::now();
+    let mut tick = start.elapsed();
+    while tick.is_zero() {
+        tick = start.elapsed();
+    }
+    if tick > Duration::from_micros(10) {
+        eprintln!("this core's clock ticks every {tick:?}, which times nothing here: pin the benchmark to another core");
+        std::process::exit(1);
+    }
 }
 
 /// Each list with its name and the words that one of its events fills, 0 for none.

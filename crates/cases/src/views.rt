@@ -1,28 +1,36 @@
 // Document 01, the lecturer's page view.
 use crate::bench;
 use crate::lines;
+use crate::texts;
 use measure::ProgramAddress;
 use part::Description;
 
-pub fn print() {
-    lines::print(b"\nPage view\n");
-    lines::print(b"case | address | words | first word\n");
-    show(b"the page of GS that starts at 0x000400", 0x000612);
-    show(b"the last page of AS, which starts at 0x7FFC00", 0x7FFFFE);
-    show(b"an address where there is no memory", 0x002800);
-    show(b"an odd address", 0x000401);
+pub(crate) fn print() {
+    lines::print(b"\nPage view\ncase | address | words | first word\n");
+    let titles = b"the page of GS that starts at 0x000400\n\
+                   the last page of AS, which starts at 0x7FFC00\n\
+                   an address where there is no memory\n\
+                   an odd address\n";
+    show(titles, 0, 0x000612);
+    show(titles, 1, 0x7FFFFE);
+    show(titles, 2, 0x002800);
+    show(titles, 3, 0x000401);
 }
 
-// The page that holds an address. The first words of the two pages that are looked for tell them from all others.
-fn show(title: &[u8], address: u32) {
-    let mut general = [bench::BLANK; bench::GENERAL];
-    let mut auxiliary = [bench::BLANK; bench::AUXILIARY];
-    general[0x000400 / 2] = bench::WORD;
-    auxiliary[(0x7FFC00 - 0x7FF000) / 2] = 0x654321;
-    lines::print(title);
+fn show(titles: &[u8], title: u32, address: u32) {
+    texts::print_line(titles, title);
     lines::print_separator();
     lines::print_word(address);
     lines::print_separator();
+    show_page(address);
+}
+
+// The page that holds an address. The first words of the two pages that are looked for tell them from all others.
+fn show_page(address: u32) {
+    let mut general = [flash::BLANK; bench::GENERAL];
+    let mut auxiliary = [flash::BLANK; bench::AUXILIARY];
+    bench::put(&mut general, 0x000400, bench::WORD);
+    bench::put(&mut auxiliary, 0x7FFC00 - 0x7FF000, 0x654321);
     print_part(device::page_view(
         Description::bench(),
         &general,

@@ -68,7 +68,6 @@ fn decoded_on(
     }
 }
 
-// The event of this index, from its three numbers.
 fn event_at(list: &[u32], index: usize) -> Decoded
     requires { ⌜ 3 * index + 2 < length (now list) ⌝ }
     ensures { λ r. ⌜ r ≡ eventAt (now (list .entry)) index ⌝ }

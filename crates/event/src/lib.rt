@@ -4,7 +4,6 @@ ghost use mathlib.Core.Path.{_≡_};
 ghost use Rattle.event.specs.Events.{goodAddress, given as givenOf};
 ghost use Rattle.event.specs.Promises.{IsWellFormedPromise, DecodePromise};
 
-// What happens to a device.
 pub enum Event {
     Next,
     FlowChange(ProgramAddress),
@@ -35,7 +34,6 @@ fn good_address(address: u32) -> bool
     (address % 2 == 0) & (address <= 0xFFFFFE)
 }
 
-// Whether an event is well-formed.
 pub fn is_well_formed(event: Event) -> bool
     ensures { λ r. ⌜ IsWellFormedPromise event r ⌝ }
 {
@@ -65,7 +63,6 @@ fn given(good: bool, event: Event) -> Decoded
     }
 }
 
-// The event that kind, A and B say.
 pub fn decode(kind: u32, a: u32, b: u32) -> Decoded
     ensures { λ r. ⌜ DecodePromise kind a b r ⌝ }
 {

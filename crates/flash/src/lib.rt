@@ -13,20 +13,17 @@ ghost use Rattle.flash.specs.Promises.{
   PagePromise,
 };
 
-// What reading a word finds.
 pub enum WordFound {
     Word(u32),
     NoWord,
 }
 
-// What programming a row comes to.
 pub enum RowProgrammed {
     BitsNotSet(u32),
     // The row does not fit the array: nothing changed.
     NoRow,
 }
 
-// What erasing a range comes to.
 pub enum RangeErased {
     Blank,
     // The range does not fit the array: nothing changed.
@@ -61,7 +58,6 @@ fn start_of(size: usize, index: usize) -> usize
     }
 }
 
-// The word at an index.
 pub fn read_word(flash: &[u32], index: usize) -> WordFound
     ensures { λ r. ⌜ ReadWordPromise (now (flash .entry)) index r ⌝ }
 {
@@ -138,7 +134,6 @@ fn fill_blank(words: &mut [u32])
     }
 }
 
-// The count words from first on, erased.
 pub fn erase_range(flash: &mut [u32], first: usize, count: usize) -> RangeErased
     ensures { λ r. ⌜ EraseRangePromise (now (flash .entry)) first count r (now (flash .exit)) ⌝ }
 {

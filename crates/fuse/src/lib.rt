@@ -9,7 +9,6 @@ ghost use Rattle.fuse.specs.Promises.{
 ghost use Rattle.fuse.specs.Byte.{maskOf, keyFor};
 ghost use mathlib.Core.Path.{_≡_};
 
-// The security level of a segment.
 pub enum Level {
     None,
     High,
@@ -28,7 +27,6 @@ fn mask(keys: bool) -> u8
     if keys { 0x33 } else { 0x03 }
 }
 
-// The byte as it is stored.
 pub fn stored_byte(keys: bool, byte: u8) -> u8
     ensures { λ r. ⌜ StoredBytePromise keys byte r ⌝ }
 {
@@ -43,7 +41,6 @@ fn key_for(stored: u8) -> u8
     if both_set { 0b00 } else { 0b11 }
 }
 
-// The level of the segment whose byte this is.
 pub fn level_of(keys: bool, byte: u8) -> Level
     ensures { λ r. ⌜ LevelOfPromise keys byte r ⌝ }
 {
@@ -54,7 +51,6 @@ pub fn level_of(keys: bool, byte: u8) -> Level
     if high { Level::High } else { Level::None }
 }
 
-// The write protection of the segment whose byte this is.
 pub fn write_protection_of(byte: u8) -> WriteProtection
     ensures { λ r. ⌜ WriteProtectionOfPromise byte r ⌝ }
 {
@@ -65,7 +61,6 @@ pub fn write_protection_of(byte: u8) -> WriteProtection
     }
 }
 
-// Whether a level is high.
 pub fn is_high(level: Level) -> bool
     ensures { λ r. ⌜ IsHighPromise level r ⌝ }
 {
@@ -75,7 +70,6 @@ pub fn is_high(level: Level) -> bool
     }
 }
 
-// Whether words may not be programmed or erased.
 pub fn is_protected(protection: WriteProtection) -> bool
     ensures { λ r. ⌜ IsProtectedPromise protection r ⌝ }
 {

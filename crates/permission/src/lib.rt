@@ -10,7 +10,6 @@ ghost use Rattle.permission.specs.Table.{rowNumber, segmentColumn, level
 pub enum Operation {
     // Program a row or erase a page.
     Program,
-    // Read a word.
     Read,
 }
 
@@ -98,7 +97,6 @@ fn column_of(target: Target) -> usize
     segment_column(segment) + level_column(level) + protection_column(protection)
 }
 
-// Whether code of the origin may do the operation on the target.
 pub fn allowed(operation: Operation, origin: Origin, target: Target) -> bool
     ensures { λ r. ⌜ AllowedPromise operation origin target r ⌝ }
 {

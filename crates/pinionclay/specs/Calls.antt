@@ -10,7 +10,7 @@ use Rattle.carrying.specs.CarryingOut.{Device, Left, leaves}
 use Rattle.device.specs.States.{stateIn, deviceOf}
 use Rattle.device.specs.OneEvent.{isSizedFor}
 use Rattle.device.specs.Lists.{RunLeft, decodedOn, run}
-use Rattle.pinionclay.specs.Numbers.{descriptionOf, stateOf, numbersOf}
+use Rattle.numbers.specs.Numbers.{descriptionOf, stateOf, numbersOf}
 use Rattle.part.specs.declared.Description.{Description}
 use Rattle.device.specs.declared.State.{State}
 use Rattle.rules.specs.declared.Answer.the-variants.{BadDescription, WrongFlashLength}

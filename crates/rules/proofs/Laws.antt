@@ -1,5 +1,5 @@
 -- The laws of `specs/`: code that runs lies in memory, and the word of a vector. Assumes nothing.
-use mathlib.Core.Path.{_≡_, refl}
+use mathlib.Core.Path.{_≡_, refl, sym, ap}
 use mathlib.Core.Bool.{Bool, true, false, not, false≢true}
 use mathlib.Core.List.{List}
 use Prim.Native.Nat.{ℕ, _+_, _*_, _/_, _<_}
@@ -14,6 +14,7 @@ use Rattle.measure.specs.declared.ProgramAddress.{ProgramAddress}
 use Rattle.measure.specs.declared.InstructionLocation.{InstructionLocation}
 use Rattle.measure.specs.Words.{wordOf}
 use Rattle.flash.specs.Operations.{readWord}
+use Rattle.flash.specs.declared.WordFound.{WordFound}
 use Rattle.flash.specs.declared.WordFound.the-variants.{Word, NoWord}
 use Rattle.permission.specs.declared.Origin.{Origin}
 use Rattle.part.specs.Descriptions.{generalWords}
@@ -23,7 +24,6 @@ use Rattle.part.specs.declared.Place.{Place}
 use Rattle.part.specs.declared.Place.the-variants.{Unimplemented, InArray}
 use Rattle.part.specs.declared.Running.{Running}
 use Rattle.part.specs.declared.Running.the-variants.{NotExecutable, Executing}
-use Rattle.rules.specs.Internals.{wordOrZero}
 
 -- ---- code that runs lies in memory, whatever the description
 
@@ -60,14 +60,19 @@ module _ (d : Description) where
 
 -- ---- the word of a vector
 
-pub word-or-zero : (flash : List ℕ) (n : ℕ) → wordOrZero (readWord flash n) ≡ wordOf (getD flash n 0)
+-- an array has the word at an index, or it is 0
+pub found-word : (flash : List ℕ) (n word : ℕ) → readWord flash n ≡ Word word → word ≡ wordOf (getD flash n 0)
 unfolding readWord
-word-or-zero flash n = go (ltb n (length flash)) refl
-  where
-    go : (t : Bool) → ltb n (length flash) ≡ t
-        → wordOrZero (if ltb n (length flash) then Word (wordOf (getD flash n 0)) else NoWord) ≡ wordOf (getD flash n 0)
-    go true e = rw e
-    go false e = rw (e, List·getD-eq-default flash 0 (ltb-false n (length flash) e))
+found-word flash n word =
+    byTest (λ (found : WordFound). found ≡ Word word → word ≡ wordOf (getD flash n 0)) (ltb n (length flash)) (λ _ e. cc)
+    (λ _ e. absurd (let z : _≡_ {A = ℕ} 0 1 = cc in omega arith))
+
+pub no-word : (flash : List ℕ) (n : ℕ) → readWord flash n ≡ NoWord → 0 ≡ wordOf (getD flash n 0)
+unfolding readWord
+no-word flash n =
+    byTest (λ (found : WordFound). found ≡ NoWord → 0 ≡ wordOf (getD flash n 0)) (ltb n (length flash))
+    (λ _ e. absurd (let z : _≡_ {A = ℕ} 0 1 = cc in omega arith))
+    (λ t _. ap wordOf (sym (List·getD-eq-default flash 0 (ltb-false n (length flash) t))))
 
 -- the word at 0x000004 + 2 × vector is the second after the vectors' start, and so on
 pub vector-index : (vector : ℕ) → (0x000004 + 2 * vector) / 2 ≡ 2 + vector

@@ -206,7 +206,7 @@ module _ (d : Description) (r : Registers) where
         (λ _. record { holds = tt })
 
     -- program flow touches no word
-    next-quiet : Quiet d S own (next d (r .pc))
+    next-quiet : Quiet d S own (next d r)
     unfolding next
     next-quiet =
         byTest (Quiet d S own) (isImplemented (placeAt d (address (r .pc .0 + 2)))) (λ _. record { holds = tt }) (λ _. record { holds = tt })

@@ -66,8 +66,8 @@ abbrev pub orRefuse : Bool → Decision → Answer → Decision
 orRefuse test decision answer = if test then decision else Refuse answer
 
 -- Rule 1. "Next, to unimplemented memory: 4. Otherwise PC moves, also into VS (house ..)."
-unfoldable pub next : Description → ProgramAddress → Decision
-next d pc = if isImplemented (placeAt d (address (pc .0 + 2))) then MoveTo (address (pc .0 + 2)) else Trap
+unfoldable pub next : Description → Registers → Decision
+next d r = if isImplemented (placeAt d (address (r .pc .0 + 2))) then MoveTo (address (r .pc .0 + 2)) else Trap
 
 -- Rule 2. "the last 32 instruction locations, 0x7FFFC0 to 0x7FFFFE"
 abbrev pub inAccessArea : InstructionLocation → Bool
@@ -159,7 +159,7 @@ programFas d r byte =
 
 -- the event's own rule, at an origin; `decide` takes power-on, rule 12, before, so its line here is never reached
 unfoldable pub ownRule : Description → Registers → List ℕ → Origin → Event → Decision
-ownRule d r vectors origin Next = next d (r .pc)
+ownRule d r vectors origin Next = next d r
 ownRule d r vectors origin (FlowChange target) = flowChange d r origin target
 ownRule d r vectors origin (Interrupt vector) = interrupt d r vectors origin vector
 ownRule d r vectors origin (TableRead a) = tableRead d r origin a

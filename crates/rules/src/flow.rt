@@ -15,14 +15,13 @@ ghost use Rattle.rules.specs.Rules.{
   toVector,
   interrupt as interruptRule,
 };
-ghost use Rattle.rules.specs.Internals.{wordOrZero};
 
 // Rule 1.
-pub(crate) fn next(description: Description, pc: ProgramAddress) -> Decision
-    requires { ⌜ pc .0 < 0x800000 ⌝ }
-    ensures { λ r. ⌜ r ≡ nextRule description pc ⌝ }
+pub(crate) fn next(description: Description, registers: Registers) -> Decision
+    requires { ⌜ registers .pc .0 < 0x800000 ⌝ }
+    ensures { λ r. ⌜ r ≡ nextRule description registers ⌝ }
 {
-    let target = ProgramAddress(pc.0 + 2);
+    let target = ProgramAddress(registers.pc.0 + 2);
     if part::is_implemented(part::place_at(description, target)) {
         Decision::MoveTo(target)
     } else {
@@ -65,22 +64,17 @@ pub(crate) fn flow_change(
     Decision::MoveTo(target)
 }
 
-fn word_or_zero(found: WordFound) -> u32
-    ensures { λ r. ⌜ r ≡ wordOrZero found ⌝ }
-{
-    match found {
-        WordFound::Word(word) => word,
-        WordFound::NoWord => 0,
-    }
-}
-
 // One location for each vector, so that no vector, well-formed or not, has an address that wraps.
 fn vector_word(vectors: &[u32], vector: u32) -> u32
     ensures { λ r. ⌜ r ≡ vectorWord (now (vectors .entry)) vector ⌝ }
 {
     let first = ProgramAddress(0x000004).location();
     let index = first.0 as usize + vector as usize;
-    word_or_zero(flash::read_word(vectors, index))
+    let found = flash::read_word(vectors, index);
+    match found {
+        WordFound::Word(word) => word,
+        WordFound::NoWord => 0,
+    }
 }
 
 // With origin GS.

@@ -111,7 +111,6 @@ fn or_refuse(test: bool, decision: Decision, answer: Answer) -> Decision
     }
 }
 
-// The event's own rule, at an origin.
 fn own_rule(
     description: Description,
     registers: Registers,
@@ -122,9 +121,8 @@ fn own_rule(
     requires { ⌜ registers .pc .0 < 0x800000 ⌝ }
     ensures { λ r. ⌜ r ≡ ownRule description registers (now (vectors .entry)) origin event ⌝ }
 {
-    let pc = registers.pc;
     match event {
-        Event::Next => flow::next(description, pc),
+        Event::Next => flow::next(description, registers),
         Event::FlowChange(target) => flow::flow_change(description, registers, origin, target),
         Event::Interrupt(vector) => flow::interrupt(
             description,

@@ -15,14 +15,12 @@ ghost use mathlib.Core.Path.{_≡_};
 ghost use Rattle.rules.specs.Rules.{
   targetIn,
   mayRead,
-  readIn,
   tableRead,
   tableWrite,
   mayChange,
-  changeIn,
   changeAt,
 };
-ghost use Rattle.rules.specs.Internals.{changeOf};
+ghost use Rattle.rules.specs.Internals.{ChangeOf};
 
 const LATCHES: u32 = flash::ROW_WORDS as u32;
 
@@ -54,18 +52,6 @@ fn may_read(
     permission::allowed(Operation::Read, origin, target)
 }
 
-fn read_in(description: Description, registers: Registers, origin: Origin, place: Place) -> Decision
-    ensures { λ r. ⌜ r ≡ readIn description registers origin place ⌝ }
-{
-    match place {
-        Place::Unimplemented => Decision::Refuse(Answer::Zeroed),
-        Place::InArray(array, index) => {
-            let test = may_read(description, registers, origin, array, index);
-            crate::or_refuse(test, Decision::ReadAt(array, index), Answer::Zeroed)
-        }
-    }
-}
-
 // Rule 4.
 pub(crate) fn table_read(
     description: Description,
@@ -76,7 +62,13 @@ pub(crate) fn table_read(
     ensures { λ r. ⌜ r ≡ tableRead description registers origin address ⌝ }
 {
     let place = part::place_at(description, address);
-    read_in(description, registers, origin, place)
+    match place {
+        Place::Unimplemented => Decision::Refuse(Answer::Zeroed),
+        Place::InArray(array, index) => {
+            let test = may_read(description, registers, origin, array, index);
+            crate::or_refuse(test, Decision::ReadAt(array, index), Answer::Zeroed)
+        }
+    }
 }
 
 // Rule 5.
@@ -87,23 +79,13 @@ pub(crate) fn table_write(address: ProgramAddress, word: u32) -> Decision
     Decision::LoadLatch(location.0 % LATCHES, word)
 }
 
-// A row where the event asks for no page.
+// Of an event that asks for one of the two.
 pub(crate) fn change_of(event: Event) -> Change
-    ensures { λ r. ⌜ r ≡ changeOf event ⌝ }
+    ensures { λ r. ⌜ ChangeOf event r ⌝ }
 {
     match event {
-        Event::Next => Change::Row,
-        Event::FlowChange(_) => Change::Row,
-        Event::Interrupt(_) => Change::Row,
-        Event::TableRead(_) => Change::Row,
-        Event::TableWrite(_, _) => Change::Row,
-        Event::ProgramRow(_) => Change::Row,
         Event::ErasePage(_) => Change::Page,
-        Event::EraseGeneral => Change::Row,
-        Event::EraseAuxiliary => Change::Row,
-        Event::ProgramFgs(_) => Change::Row,
-        Event::ProgramFas(_) => Change::Row,
-        Event::PowerOn => Change::Row,
+        _ => Change::Row,
     }
 }
 
@@ -121,28 +103,6 @@ fn may_change(
     permission::allowed(Operation::Program, origin, target)
 }
 
-fn change_in(
-    change: Change,
-    description: Description,
-    registers: Registers,
-    origin: Origin,
-    place: Place,
-) -> Decision
-    ensures { λ r. ⌜ r ≡ changeIn change description registers origin place ⌝ }
-{
-    match place {
-        Place::Unimplemented => Decision::Refuse(Answer::NotStarted),
-        Place::InArray(array, index) => {
-            let test = may_change(description, registers, origin, array, index);
-            crate::or_refuse(
-                test,
-                Decision::ChangeAt(change, array, index),
-                Answer::NotStarted,
-            )
-        }
-    }
-}
-
 // Rules 6 and 7.
 pub(crate) fn change_at(
     change: Change,
@@ -154,5 +114,15 @@ pub(crate) fn change_at(
     ensures { λ r. ⌜ r ≡ changeAt change description registers origin address ⌝ }
 {
     let place = part::place_at(description, address);
-    change_in(change, description, registers, origin, place)
+    match place {
+        Place::Unimplemented => Decision::Refuse(Answer::NotStarted),
+        Place::InArray(array, index) => {
+            let test = may_change(description, registers, origin, array, index);
+            crate::or_refuse(
+                test,
+                Decision::ChangeAt(change, array, index),
+                Answer::NotStarted,
+            )
+        }
+    }
 }

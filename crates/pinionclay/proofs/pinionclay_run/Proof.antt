@@ -32,7 +32,7 @@ same-length-3 c = search needs
 returns : tie.Need-returns
 returns c =
     rw (c .write-unless-refused .ensures, c .before .before .number .ensures)
-    (ap (runNumbers (c .before .before .before .before .before .before .before .before .before .before .before .before .before .before .before .before .before .before .before .before .before .before .args .state .now)) (rw (c .before .before .before .before .before .before .before .before .before .before .before .before .before .before .before .state-of .ensures, c .before .before .before .before .before .before .before .before .before .before .before .before .before .before .description-of .ensures) at (c .before .before .before .before .before .before .before .before .before .before .run .ensures)))
+    (ap (runNumbers (c .before .before .before .before .before .before .before .before .before .before .before .before .before .before .before .before .before .before .before .before .before .args .state .now)) (rw (c .before .before .before .before .before .before .before .before .before .before .before .before .before .before .before .state-of .ensures, c .before .before .before .before .before .before .before .before .before .before .before .before .before .before .description-of .ensures) at (c .before .before .before .before .before .before .before .before .before .before .run .ensures)))
 
 pub pinionclay-run-spec : {M : Type 1} → statement M
 pinionclay-run-spec =

@@ -32,7 +32,7 @@ same-length-2 c = search needs
 returns : tie.Need-returns
 returns c =
     let ran = rw (c .before .before .before .before .before .before .before .before .before .before .before .before .before .before .before .state-of .ensures, c .before .before .before .before .before .before .before .before .before .before .before .before .before .before .description-of .ensures) at (c .before .before .before .before .before .before .before .before .before .run .ensures) in
-    rw (← one-event (c .before .before .before .before .before .before .before .before .before .before .before .before .before .before .before .before .before .before .before .before .args .state .now) _ _ _ _ _, ← ran, c .before .if1 .taken, c .number .ensures)
+    rw (← one-event (c .before .before .before .before .before .before .before .before .before .before .before .before .before .before .before .before .before .before .before .args .state .now) _ _ _ _ _, ← ran, c .before .if1 .taken, c .number .ensures)
 
 array-read-number : tie.Need-array-read-number
 array-read-number c = search needs
@@ -52,7 +52,7 @@ same-length-4 c = search needs
 returns-2 : tie.Need-returns-2
 returns-2 c =
     let ran = rw (c .before .before .before .before .before .before .before .before .before .before .before .before .before .before .before .before .state-of .ensures, c .before .before .before .before .before .before .before .before .before .before .before .before .before .before .before .description-of .ensures) at (c .before .before .before .before .before .before .before .before .before .before .run .ensures) in
-    rw (← one-event (c .before .before .before .before .before .before .before .before .before .before .before .before .before .before .before .before .before .before .before .before .before .args .state .now) _ _ _ _ _, ← ran, ne-eqb _ 0 (c .before .before .if1 .left), c .write-unless-refused .ensures)
+    rw (← one-event (c .before .before .before .before .before .before .before .before .before .before .before .before .before .before .before .before .before .before .before .before .args .state .now) _ _ _ _ _, ← ran, ne-eqb _ 0 (c .before .before .if1 .left), c .write-unless-refused .ensures)
 
 pub pinionclay-step-spec : {M : Type 1} → statement M
 pinionclay-step-spec =

@@ -118,8 +118,8 @@ returns-11 : tie.Need-returns-11
 unfolding ownRule
 returns-11 c =
     ⊎-elim
-    (λ w. rw (w .1 .given .1) (rw (c .before .change-of .ensures, w .3, w .4) at (c .change-at .ensures)))
-    (λ w. rw (w .1 .given .1) (rw (c .before .change-of .ensures, w .3, w .4) at (c .change-at .ensures)))
+    (λ w. rw (w .1 .given .1) (rw (c .before .change-of .ensures .row _ (w .3), w .4) at (c .change-at .ensures)))
+    (λ w. rw (w .1 .given .1) (rw (c .before .change-of .ensures .page _ (w .3), w .4) at (c .change-at .ensures)))
     (c .before .before .match .came)
 
 pub own-rule-spec : {M : Type 1} → statement M

@@ -8,10 +8,10 @@ use Rattle.cases.proofs.marked.count_not_started.Statement.{statement}
 use Rattle.cases.proofs.marked.count_not_started.Tie as tie
 
 abbrev Inv-loop : tie.InvT-loop
-Inv-loop state count₀ byte₀ count byte = (byte ≤ 256) × (count ≤ byte)
+Inv-loop count₀ byte₀ count byte = (byte ≤ 256) × (count ≤ byte)
 
 abbrev μ-loop : tie.MeasureT-loop
-μ-loop state count₀ byte₀ count byte = 256 - byte
+μ-loop count₀ byte₀ count byte = 256 - byte
 
 loop-holds : tie.Need-loop-holds Inv-loop μ-loop
 loop-holds c = omega arith

@@ -1,8 +1,8 @@
--- `pinionclay::state_of` meets its contract. Assumes nothing.
-use Rattle.pinionclay.proofs.Laws.{latches-are}
+-- `numbers::state_in` meets its contract. Assumes nothing.
+use Rattle.numbers.proofs.Laws.{latches-are}
 use borrow.Author.Needs.{needs}
-use Rattle.pinionclay.proofs.state_of.Statement.{statement}
-use Rattle.pinionclay.proofs.state_of.Tie as tie
+use Rattle.numbers.proofs.state_in.Statement.{statement}
+use Rattle.numbers.proofs.state_in.Tie as tie
 
 sub-copy : tie.Need-sub-copy
 sub-copy c = search needs
@@ -43,8 +43,8 @@ cast-t26 c = search needs
 returns : tie.Need-returns
 returns c = rw (c .before .before .before .before .before .before .copy .ensures, latches-are (c .before .before .before .before .before .before .before .before .before .before .args .numbers .now) (c .before .before .before .before .before .before .before .before .before .before .pre))
 
-pub state-of-spec : {M : Type 1} → statement M
-state-of-spec =
+pub state-in-spec : {M : Type 1} → statement M
+state-in-spec =
     tie.close
     (tie.spec
     sub-copy

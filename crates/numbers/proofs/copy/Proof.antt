@@ -1,12 +1,12 @@
--- `pinionclay::copy` meets its contract: the words before the place are those of `from`, the others as lent. Assumes nothing.
+-- `numbers::copy` meets its contract: the words before the place are those of `from`, the others as lent. Assumes nothing.
 use Prim.Native.Nat.{_≤_, _-_}
 use mathlib.Core.Path.{_≡_, refl, _∙_}
 use native.Mathlib.Omega.{arith}
 use borrow.Author.Needs.{needs}
 use lib.ListN.{length, length-set}
-use Rattle.pinionclay.proofs.Laws.{copied, copied-more, copied-all}
-use Rattle.pinionclay.proofs.copy.Statement.{statement}
-use Rattle.pinionclay.proofs.copy.Tie as tie
+use Rattle.numbers.proofs.Laws.{copied, copied-more, copied-all}
+use Rattle.numbers.proofs.copy.Statement.{statement}
+use Rattle.numbers.proofs.copy.Tie as tie
 
 abbrev Inv-loop : tie.InvT-loop
 Inv-loop from to₀ at₀ to at = (at ≤ length to₀) × (length to ≡ length to₀) × (to ≡ copied at from to₀)
