@@ -46,7 +46,7 @@ pub fn description_of(numbers: &[u32; DESCRIPTION]) -> Description
     }
 }
 
-fn state_in(numbers: &[u32]) -> State
+fn state_of_slice(numbers: &[u32]) -> State
     requires { ⌜ length (now numbers) ≡ 69 ⌝ }
     ensures { λ r. ⌜ r ≡ stateOf (now (numbers .entry)) ⌝ }
 {
@@ -65,10 +65,10 @@ fn state_in(numbers: &[u32]) -> State
 pub fn state_of(numbers: &[u32; STATE]) -> State
     ensures { λ r. ⌜ StateOfPromise (now (numbers .entry)) r ⌝ }
 {
-    state_in(numbers)
+    state_of_slice(numbers)
 }
 
-fn write_in(state: State, numbers: &mut [u32])
+fn write_slice(state: State, numbers: &mut [u32])
     requires { ⌜ length (now numbers) ≡ 69 ⌝ }
     ensures { λ _. ⌜ now (numbers .exit) ≡ numbersOf state ⌝ }
 {
@@ -84,5 +84,5 @@ fn write_in(state: State, numbers: &mut [u32])
 pub fn write(state: State, numbers: &mut [u32; STATE])
     ensures { λ _. ⌜ WritePromise state (now (numbers .exit)) ⌝ }
 {
-    write_in(state, numbers);
+    write_slice(state, numbers);
 }

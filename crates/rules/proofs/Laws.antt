@@ -1,4 +1,5 @@
--- The laws of `specs/`: code that runs lies in memory, and the word of a vector. Assumes nothing.
+-- The laws of `specs/`: code that runs lies in memory, the word of a vector, and what all other events and answers come to.
+-- Assumes nothing.
 use mathlib.Core.Path.{_≡_, refl, sym, ap}
 use mathlib.Core.Bool.{Bool, true, false, not, false≢true}
 use mathlib.Core.List.{List}
@@ -17,6 +18,36 @@ use Rattle.flash.specs.Operations.{readWord}
 use Rattle.flash.specs.declared.WordFound.{WordFound}
 use Rattle.flash.specs.declared.WordFound.the-variants.{Word, NoWord}
 use Rattle.permission.specs.declared.Origin.{Origin}
+use Rattle.event.specs.declared.Event.{Event}
+use Rattle.event.specs.declared.Event.the-variants.{
+  Next,
+  FlowChange,
+  Interrupt,
+  TableRead,
+  TableWrite,
+  ProgramRow,
+  ErasePage,
+  EraseGeneral,
+  EraseAuxiliary,
+  ProgramFgs,
+  ProgramFas,
+  PowerOn,
+}
+use Rattle.rules.specs.Answers.{valueOf}
+use Rattle.rules.specs.Rules.{isPowerOn}
+use Rattle.rules.specs.declared.Answer.{Answer}
+use Rattle.rules.specs.declared.Answer.the-variants.{
+  Done,
+  Zeroed,
+  NotStarted,
+  SecurityReset,
+  AddressTrap,
+  Stopped,
+  MalformedEvent,
+  BadDescription,
+  WrongFlashLength,
+  BadList,
+}
 use Rattle.part.specs.Descriptions.{generalWords}
 use Rattle.part.specs.Places.{auxiliaryEnd, auxiliaryFirst, placeOf, placeAt, isImplemented, runningIn, runningAt}
 use Rattle.part.specs.declared.Description.{Description}
@@ -77,3 +108,31 @@ no-word flash n =
 -- the word at 0x000004 + 2 × vector is the second after the vectors' start, and so on
 pub vector-index : (vector : ℕ) → (0x000004 + 2 * vector) / 2 ≡ 2 + vector
 vector-index vector = omega arith
+
+-- ---- an arm for all other cases
+
+pub no-power-on : (event : Event) → (event ≡ PowerOn → ⊥) → isPowerOn event ≡ false
+no-power-on Next other = refl
+no-power-on (FlowChange target) other = refl
+no-power-on (Interrupt vector) other = refl
+no-power-on (TableRead a) other = refl
+no-power-on (TableWrite a word) other = refl
+no-power-on (ProgramRow a) other = refl
+no-power-on (ErasePage a) other = refl
+no-power-on EraseGeneral other = refl
+no-power-on EraseAuxiliary other = refl
+no-power-on (ProgramFgs byte) other = refl
+no-power-on (ProgramFas byte) other = refl
+no-power-on PowerOn other = absurd (other refl)
+
+pub no-value : (answer : Answer) → ((value : ℕ) → answer ≡ Done value → ⊥) → valueOf answer ≡ 0
+no-value (Done value) other = absurd (other value refl)
+no-value Zeroed other = refl
+no-value NotStarted other = refl
+no-value SecurityReset other = refl
+no-value AddressTrap other = refl
+no-value Stopped other = refl
+no-value MalformedEvent other = refl
+no-value BadDescription other = refl
+no-value WrongFlashLength other = refl
+no-value BadList other = refl

@@ -88,15 +88,7 @@ impl Answer {
     {
         match self {
             Answer::Done(value) => value,
-            Answer::Zeroed => 0,
-            Answer::NotStarted => 0,
-            Answer::SecurityReset => 0,
-            Answer::AddressTrap => 0,
-            Answer::Stopped => 0,
-            Answer::MalformedEvent => 0,
-            Answer::BadDescription => 0,
-            Answer::WrongFlashLength => 0,
-            Answer::BadList => 0,
+            _ => 0,
         }
     }
 }
@@ -150,18 +142,8 @@ fn is_power_on(event: Event) -> bool
     ensures { λ r. ⌜ r ≡ isPowerOn event ⌝ }
 {
     match event {
-        Event::Next => false,
-        Event::FlowChange(_) => false,
-        Event::Interrupt(_) => false,
-        Event::TableRead(_) => false,
-        Event::TableWrite(_, _) => false,
-        Event::ProgramRow(_) => false,
-        Event::ErasePage(_) => false,
-        Event::EraseGeneral => false,
-        Event::EraseAuxiliary => false,
-        Event::ProgramFgs(_) => false,
-        Event::ProgramFas(_) => false,
         Event::PowerOn => true,
+        _ => false,
     }
 }
 

@@ -1,8 +1,8 @@
--- `numbers::state_in` meets its contract. Assumes nothing.
+-- `numbers::state_of_slice` meets its contract. Assumes nothing.
 use Rattle.numbers.proofs.Laws.{latches-are}
 use borrow.Author.Needs.{needs}
-use Rattle.numbers.proofs.state_in.Statement.{statement}
-use Rattle.numbers.proofs.state_in.Tie as tie
+use Rattle.numbers.proofs.state_of_slice.Statement.{statement}
+use Rattle.numbers.proofs.state_of_slice.Tie as tie
 
 sub-copy : tie.Need-sub-copy
 sub-copy c = search needs
@@ -43,8 +43,8 @@ cast-t26 c = search needs
 returns : tie.Need-returns
 returns c = rw (c .before .before .before .before .before .before .copy .ensures, latches-are (c .before .before .before .before .before .before .before .before .before .before .args .numbers .now) (c .before .before .before .before .before .before .before .before .before .before .pre))
 
-pub state-in-spec : {M : Type 1} → statement M
-state-in-spec =
+pub state-of-slice-spec : {M : Type 1} → statement M
+state-of-slice-spec =
     tie.close
     (tie.spec
     sub-copy

@@ -1,10 +1,10 @@
--- `numbers::write_in` meets its contract. Assumes nothing.
+-- `numbers::write_slice` meets its contract. Assumes nothing.
 use Rattle.numbers.proofs.Laws.{written-is, written-length}
 use native.Mathlib.Omega.{arith}
 use lib.ListN.{length-set, length-take, length-drop}
 use borrow.Author.Needs.{needs}
-use Rattle.numbers.proofs.write_in.Statement.{statement}
-use Rattle.numbers.proofs.write_in.Tie as tie
+use Rattle.numbers.proofs.write_slice.Statement.{statement}
+use Rattle.numbers.proofs.write_slice.Tie as tie
 
 slice-write-numbers : tie.Need-slice-write-numbers
 slice-write-numbers c = search needs
@@ -55,8 +55,8 @@ returns : tie.Need-returns
 returns c =
     rw (c .before .before .copy .ensures, c .before .before .before .before .before .before .before .before .flag-number .ensures, c .before .before .before .before .before .before .before .flag-number2 .ensures) (written-is (c .before .before .before .before .before .before .before .before .before .before .before .args .numbers .now) _ _ _ _ _ _ (c .before .before .before .before .before .before .before .before .before .before .before .pre))
 
-pub write-in-spec : {M : Type 1} → statement M
-write-in-spec =
+pub write-slice-spec : {M : Type 1} → statement M
+write-slice-spec =
     tie.close
     (tie.spec
     slice-write-numbers
