@@ -1,5 +1,5 @@
 // Measures: program addresses, instruction locations and 24-bit words.
-ghost use Rattle·measure·specs.specs.Promises.{
+ghost use Rattle.measure.specs.Promises.{
   LocationPromise,
   AddressPromise,
   WordPromise,
@@ -8,12 +8,15 @@ ghost use Rattle·measure·specs.specs.Promises.{
 };
 
 // A program address: it counts two for every instruction location.
+#[derive(Drop)]
 pub struct ProgramAddress(pub u32);
 
 // An instruction location: it counts one for every word of program memory.
+#[derive(Drop)]
 pub struct InstructionLocation(pub u32);
 
 // What asking for the address of an instruction location finds.
+#[derive(Drop)]
 pub enum AddressFound {
     At(ProgramAddress),
     // Twice the location is more than a program address can hold.
@@ -23,7 +26,7 @@ pub enum AddressFound {
 impl ProgramAddress {
     // The instruction location that holds this address; an odd address lies in the one that starts just before it.
     pub fn location(self) -> InstructionLocation
-        ensures { λ r. ⌜ LocationPromise self r ⌝ }
+        ensures { LocationPromise self result }
     {
         InstructionLocation(self.0 / 2)
     }
@@ -32,7 +35,7 @@ impl ProgramAddress {
 impl InstructionLocation {
     // The program address at which this location starts.
     pub fn address(self) -> AddressFound
-        ensures { λ r. ⌜ AddressPromise self r ⌝ }
+        ensures { AddressPromise self result }
     {
         if self.0 < 0x80000000 {
             AddressFound::At(ProgramAddress(2 * self.0))
@@ -44,21 +47,21 @@ impl InstructionLocation {
 
 // A lent number read as a word: its top byte is ignored.
 pub fn word(lent: u32) -> u32
-    ensures { λ r. ⌜ WordPromise lent r ⌝ }
+    ensures { WordPromise lent result }
 {
     lent % 0x1000000
 }
 
 // What programming makes of a word: the old word AND the latch.
 pub fn programmed_word(old: u32, latch: u32) -> u32
-    ensures { λ r. ⌜ ProgrammedWordPromise old latch r ⌝ }
+    ensures { ProgrammedWordPromise old latch result }
 {
     word(old) & word(latch)
 }
 
 // How many bits are one in the latch and zero in the old word: programming cannot set them.
 pub fn bits_not_set(old: u32, latch: u32) -> u32
-    ensures { λ r. ⌜ BitsNotSetPromise old latch r ⌝ }
+    ensures { BitsNotSetPromise old latch result }
 {
     u32::count_ones(word(latch) & !word(old))
 }
