@@ -1,7 +1,7 @@
 -- Worked examples, by computation. Assumes nothing.
-use Rattle.std.specs.Prelude.{◌≡◌, refl, ℕ}
+use Rattle.std.specs.Prelude.{◌≡◌, refl}
 use Rattle.measure.specs.Measures.{address, location, location_of, address_of}
-use Rattle.measure.specs.Words.{word_of, and_of, not_set_of, programmed_word, bits_not_set}
+use Rattle.measure.specs.Words.{and_of, not_set_of, programmed_word, bits_not_set}
 use Rattle.measure.specs.declared.AddressFound.TheVariants.{At, NoAddress}
 
 -- document 01, marked point: word 0x0000F0, latch 0x0000FF

@@ -1,4 +1,6 @@
 // Measures: program addresses, instruction locations and 24-bit words.
+#![tactic(auto)]
+
 ghost use Rattle.measure.specs.Promises.{
   LocationPromise,
   AddressPromise,
@@ -8,15 +10,15 @@ ghost use Rattle.measure.specs.Promises.{
 };
 
 // A program address: it counts two for every instruction location.
-#[derive(Drop)]
+#[derive(Clone, Copy)]
 pub struct ProgramAddress(pub u32);
 
 // An instruction location: it counts one for every word of program memory.
-#[derive(Drop)]
+#[derive(Clone, Copy)]
 pub struct InstructionLocation(pub u32);
 
 // What asking for the address of an instruction location finds.
-#[derive(Drop)]
+#[derive(Clone, Copy)]
 pub enum AddressFound {
     At(ProgramAddress),
     // Twice the location is more than a program address can hold.
@@ -34,6 +36,7 @@ impl ProgramAddress {
 
 impl InstructionLocation {
     // The program address at which this location starts.
+    #[tactic(auto, unfolding(crate::specs::Measures::address_of))]
     pub fn address(self) -> AddressFound
         ensures { AddressPromise self result }
     {
