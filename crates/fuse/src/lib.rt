@@ -1,4 +1,6 @@
 // What a fuse byte says, FGS and FAS alike.
+#![tactic(auto)]
+
 ghost use Rattle.fuse.specs.Promises.{
   StoredBytePromise,
   LevelOfPromise,
@@ -9,14 +11,14 @@ ghost use Rattle.fuse.specs.Promises.{
 ghost use Rattle.fuse.specs.Byte.{mask_of, key_for};
 ghost use Rattle.std.specs.Prelude.{◌≡◌};
 
-#[derive(Drop)]
+#[derive(Clone, Copy)]
 pub enum Level {
     None,
     High,
 }
 
 // Whether a segment's words may be programmed and erased.
-#[derive(Drop)]
+#[derive(Clone, Copy)]
 pub enum WriteProtection {
     Writable,
     Protected,
@@ -29,6 +31,7 @@ fn mask(keys: bool) -> u8
     if keys { 0x33 } else { 0x03 }
 }
 
+#[tactic(auto, using(crate::proofs::Laws::stored_is))]
 pub fn stored_byte(keys: bool, byte: u8) -> u8
     ensures { StoredBytePromise keys byte result }
 {
@@ -43,6 +46,7 @@ fn key_for(stored: u8) -> u8
     if both_set { 0b00 } else { 0b11 }
 }
 
+#[tactic(auto, unfolding(crate::specs::Byte::level_of))]
 pub fn level_of(keys: bool, byte: u8) -> Level
     ensures { LevelOfPromise keys byte result }
 {
@@ -53,6 +57,7 @@ pub fn level_of(keys: bool, byte: u8) -> Level
     if high { Level::High } else { Level::None }
 }
 
+#[tactic(auto, unfolding(crate::specs::Byte::write_protection_of))]
 pub fn write_protection_of(byte: u8) -> WriteProtection
     ensures { WriteProtectionOfPromise byte result }
 {
