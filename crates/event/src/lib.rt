@@ -1,11 +1,13 @@
 // What may happen to a device, and what three numbers of a list say.
+#![tactic(auto)]
+
 ghost use Rattle.std.specs.Prelude.{◌≡◌};
 ghost use Rattle.event.specs.Events.{good_address, given as given_of};
 ghost use Rattle.event.specs.Promises.{IsWellFormedPromise, DecodePromise};
 
 use measure::ProgramAddress;
 
-#[derive(Drop)]
+#[derive(Clone, Copy)]
 pub enum Event {
     Next,
     FlowChange(ProgramAddress),
@@ -25,7 +27,7 @@ pub enum Event {
 }
 
 // What three numbers of a list say.
-#[derive(Drop)]
+#[derive(Clone, Copy)]
 pub enum Decoded {
     WellFormed(Event),
     Malformed,
@@ -37,6 +39,7 @@ fn good_address(address: u32) -> bool
     (address % 2 == 0) & (address <= 0xFFFFFE)
 }
 
+#[tactic(auto, unfolding(crate::specs::Events::is_well_formed))]
 pub fn is_well_formed(event: Event) -> bool
     ensures { IsWellFormedPromise event result }
 {
@@ -66,6 +69,7 @@ fn given(good: bool, event: Event) -> Decoded
     }
 }
 
+#[tactic(auto, using(crate::proofs::Laws::given_byte), unfolding(crate::specs::Events::decode))]
 pub fn decode(kind: u32, a: u32, b: u32) -> Decoded
     ensures { DecodePromise kind a b result }
 {

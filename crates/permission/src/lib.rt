@@ -1,4 +1,6 @@
 // Which code may read, program or erase what: table 23-1 as one table of tables.
+#![tactic(auto)]
+
 ghost use Rattle.std.specs.Prelude.{◌≡◌, ◌≤◌, ◌<◌};
 ghost use Rattle.permission.specs.Promises.{AllowedPromise};
 ghost use Rattle.permission.specs.Table.{row_number, segment_column, level_column, protection_column, column_of};
@@ -6,7 +8,7 @@ ghost use Rattle.permission.specs.Table.{row_number, segment_column, level_colum
 use fuse::{Level, WriteProtection};
 
 // What is asked of the target's words.
-#[derive(Drop)]
+#[derive(Clone, Copy)]
 pub enum Operation {
     // Program a row or erase a page.
     Program,
@@ -14,14 +16,14 @@ pub enum Operation {
 }
 
 // The segment whose code asks.
-#[derive(Drop)]
+#[derive(Clone, Copy)]
 pub enum Origin {
     FromGeneral,
     FromAuxiliary,
 }
 
 // Where the words lie.
-#[derive(Drop)]
+#[derive(Clone, Copy)]
 pub enum Segment {
     General,
     Auxiliary,
@@ -29,7 +31,7 @@ pub enum Segment {
 }
 
 // A column of the table: a segment and what its fuse byte says.
-#[derive(Drop)]
+#[derive(Clone, Copy)]
 pub struct Target {
     pub segment: Segment,
     pub level: Level,
@@ -91,6 +93,7 @@ fn protection_column(protection: WriteProtection) -> usize
     }
 }
 
+#[tactic(auto, using(crate::proofs::Laws::segment_le, crate::proofs::Laws::level_le, crate::proofs::Laws::protection_le))]
 fn column_of(target: Target) -> usize
     ensures { result ≡ column_of target }
 {
@@ -100,6 +103,7 @@ fn column_of(target: Target) -> usize
     segment_column(segment) + level_column(level) + protection_column(protection)
 }
 
+#[tactic(auto, using(crate::proofs::Laws::row_lt, crate::proofs::Laws::column_lt))]
 pub fn allowed(operation: Operation, origin: Origin, target: Target) -> bool
     ensures { AllowedPromise operation origin target result }
 {
