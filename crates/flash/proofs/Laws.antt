@@ -1,5 +1,5 @@
 -- The laws of `specs/`: what fits, and what a row and a range hold while they are written. Assumes nothing.
-use Prim.Native.Nat.{ℕ, zero, suc, ◌+◌, ◌-◌, ◌*◌, ◌%◌, ◌<◌, ◌≤◌}
+use Prim.Native.Nat.{ℕ, zero, suc, ◌+◌, ◌-◌, ◌<◌, ◌≤◌}
 use mathlib.Core.Path.{◌≡◌, refl, sym, ap, ap₂, ◌∙◌}
 use mathlib.Core.Bool.{Bool, true, false}
 use mathlib.Core.List.{List, [], ◌∷◌, ◌++◌, zip_with, append-nil, append_assoc}
@@ -12,7 +12,6 @@ use lib.Dec.{leb}
 use lib.ListN.{length, take, drop, get_or, set, replicate, length-take, length-drop, length-replicate, replicate-append-replicate, drop_of_length-le}
 use lib.Seq.{take_all, take_at, drop_at, drop-drop, drop-length}
 use Rattle.measure.specs.Words.{programmed_word, bits_not_set}
-use Rattle.measure.proofs.Laws.{not_set_le}
 use Rattle.flash.specs.Parts.{blank, fits, part, with_part}
 use Rattle.flash.specs.Operations.{Outcome, outcome, erase_range, programmed_words, total, row_not_set}
 use Rattle.flash.specs.Internals.{ProgramWordsPromise}

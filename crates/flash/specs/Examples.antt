@@ -1,5 +1,5 @@
 -- Worked examples, by computation, on an array of the bench device's size. Assumes nothing.
-use Rattle.std.specs.Prelude.{◌≡◌, refl, ℕ, get_or, length, replicate}
+use Rattle.std.specs.Prelude.{◌≡◌, refl, get_or, length, replicate}
 use mathlib.Core.List.{zip_with}
 use Rattle.measure.specs.Words.{and_of, not_set_of}
 use Rattle.flash.specs.Parts.{with_part}

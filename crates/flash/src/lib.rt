@@ -1,4 +1,6 @@
 // One lent flash array and a word index: read, program a row, erase, and the part that is a page.
+#![tactic(auto)]
+
 ghost use Rattle.std.specs.Prelude.{◌≡◌, ◌<◌, ◌≤◌, length, replicate};
 ghost use Rattle.flash.specs.Parts.{fits as fits_in, start_of, blank};
 ghost use Rattle.flash.specs.Operations.{row_words};
@@ -11,20 +13,20 @@ ghost use Rattle.flash.specs.Promises.{
   PagePromise,
 };
 
-#[derive(Drop)]
+#[derive(Clone, Copy)]
 pub enum WordFound {
     Word(u32),
     NoWord,
 }
 
-#[derive(Drop)]
+#[derive(Clone, Copy)]
 pub enum RowProgrammed {
     BitsNotSet(u32),
     // The row does not fit the array: nothing changed.
     NoRow,
 }
 
-#[derive(Drop)]
+#[derive(Clone, Copy)]
 pub enum RangeErased {
     Blank,
     // The range does not fit the array: nothing changed.
@@ -38,6 +40,7 @@ pub const BLANK: u32 = 0xFFFFFF;
 pub const ROW_WORDS: usize = 64;
 
 // Whether count words from first on lie in an array of this length.
+#[tactic(auto, using(crate::proofs::Laws::fits_is))]
 fn fits(length: usize, first: usize, count: usize) -> bool
     ensures { result ≡ fits_in length first count }
 {
@@ -59,6 +62,7 @@ fn start_of(size: usize, index: usize) -> usize
     }
 }
 
+#[tactic(auto, unfolding(crate::specs::Operations::read_word))]
 pub fn read_word(flash: &[u32], index: usize) -> WordFound
     ensures { ReadWordPromise flash.now index result }
 {
@@ -80,6 +84,7 @@ fn program_word(row: &mut [u32], index: usize, latch: u32) -> u32
 }
 
 // All words of a row, from their latches: programmed in place; the value is the row's bits not set.
+#[tactic(auto, using(measure::proofs::Laws::not_set_le, crate::proofs::Laws::row_more, crate::proofs::Laws::count_more))]
 fn program_words(row: &mut [u32], latches: &[u32]) -> u32
     requires { (length row.old ≡ row_words) × (length latches.now ≡ row_words) }
     ensures { ProgramWordsPromise row.old latches.now result row.new }
@@ -95,6 +100,7 @@ fn program_words(row: &mut [u32], latches: &[u32]) -> u32
 }
 
 // The aligned row that holds an index, programmed from the latches.
+#[tactic(auto, using(crate::proofs::Laws::fitted), unfolding(crate::specs::Operations::program_row_at))]
 pub fn program_row(flash: &mut [u32], index: usize, latches: &[u32; ROW_WORDS]) -> RowProgrammed
     ensures { ProgramRowPromise flash.old index latches.now result flash.new }
 {
@@ -135,6 +141,7 @@ fn fill_blank(words: &mut [u32])
     }
 }
 
+#[tactic(auto, using(crate::proofs::Laws::fitted, crate::proofs::Laws::erased_part), unfolding(crate::specs::Operations::erase_range))]
 pub fn erase_range(flash: &mut [u32], first: usize, count: usize) -> RangeErased
     ensures { EraseRangePromise flash.old first count result flash.new }
 {
@@ -148,6 +155,7 @@ pub fn erase_range(flash: &mut [u32], first: usize, count: usize) -> RangeErased
 }
 
 // The page of this size that holds an index, erased.
+#[tactic(auto, unfolding(crate::specs::Operations::erase_page))]
 pub fn erase_page(flash: &mut [u32], size: usize, index: usize) -> RangeErased
     ensures { ErasePagePromise flash.old size index result flash.new }
 {
@@ -159,6 +167,7 @@ pub fn erase_page(flash: &mut [u32], size: usize, index: usize) -> RangeErased
 }
 
 // The page of this size that holds an index, as a part of the array; the empty part at its front where there is none.
+#[tactic(auto, using(crate::proofs::Laws::fitted), unfolding(crate::specs::Operations::page_of))]
 pub fn page(flash: &[u32], size: usize, index: usize) -> &[u32]
     ensures { PagePromise flash.now size index result.now }
 {

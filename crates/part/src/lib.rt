@@ -1,4 +1,6 @@
 // What a part is: its description, where an address lies, whose code runs there, and which target of table 23-1 it is.
+#![tactic(auto)]
+
 ghost use Rattle.std.specs.Prelude.{◌≡◌, ◌*◌};
 ghost use Rattle.part.specs.Descriptions.{good_vector};
 ghost use Rattle.part.specs.Places.{auxiliary_end, auxiliary_first, place_of, running_in, byte_of};
@@ -19,7 +21,7 @@ ghost use Rattle.part.specs.Promises.{
 use measure::{InstructionLocation, ProgramAddress};
 use permission::{Origin, Segment, Target};
 
-#[derive(Drop)]
+#[derive(Clone, Copy)]
 pub struct Description {
     pub page_words: u32,
     // Vectors included.
@@ -32,21 +34,21 @@ pub struct Description {
 }
 
 // One of the two lent flash arrays.
-#[derive(Drop)]
+#[derive(Clone, Copy)]
 pub enum FlashArray {
     GeneralArray,
     AuxiliaryArray,
 }
 
 // Where an instruction location lies: its array, and its index there.
-#[derive(Drop)]
+#[derive(Clone, Copy)]
 pub enum Place {
     Unimplemented,
     InArray(FlashArray, u32),
 }
 
 // Whose code runs.
-#[derive(Drop)]
+#[derive(Clone, Copy)]
 pub enum Running {
     NotExecutable,
     Executing(Origin),
@@ -83,6 +85,7 @@ fn good_vector(description: Description) -> bool
     }
 }
 
+#[tactic(auto, unfolding(crate::specs::Descriptions::is_valid))]
 pub fn is_valid(description: Description) -> bool
     ensures { IsValidPromise description result }
 {
@@ -92,6 +95,7 @@ pub fn is_valid(description: Description) -> bool
     page & general & auxiliary & good_vector(description)
 }
 
+#[tactic(auto, using(crate::proofs::Laws::product_lt))]
 fn words(pages: u32, page: u32) -> usize
     ensures { result ≡ pages * page }
 {
@@ -124,6 +128,7 @@ fn auxiliary_first(description: Description) -> usize
     if auxiliary <= end { end - auxiliary } else { 0 }
 }
 
+#[tactic(auto, unfolding(crate::specs::Places::place_of))]
 fn place_of(description: Description, location: InstructionLocation) -> Place
     ensures { result ≡ place_of description location }
 {
@@ -193,6 +198,7 @@ fn running_in(pc: ProgramAddress, place: Place) -> Running
 }
 
 // Whose code runs at a PC, any 32-bit number.
+#[tactic(auto, unfolding(crate::specs::Places::running_at))]
 pub fn running_at(description: Description, pc: ProgramAddress) -> Running
     ensures { RunningAtPromise description pc result }
 {
@@ -239,6 +245,7 @@ fn byte_of(fgs: u8, fas: u8, segment: Segment) -> u8
 }
 
 // The column of a segment in table 23-1, by the two fuse bytes.
+#[tactic(auto, unfolding(crate::specs::Places::target_of))]
 pub fn target_of(keys: bool, fgs: u8, fas: u8, segment: Segment) -> Target
     ensures { TargetOfPromise keys fgs fas segment result }
 {
