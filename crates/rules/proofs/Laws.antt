@@ -1,14 +1,13 @@
 -- The laws of `specs/`: code that runs lies in memory, the word of a vector, and what all other events and answers come to.
 -- Assumes nothing.
 use mathlib.Core.Path.{◌≡◌, refl, sym, ap}
-use mathlib.Core.Bool.{Bool, true, false, not, false≢true}
+use mathlib.Core.Bool.{true, false, not, false≢true}
 use mathlib.Core.List.{List}
 use Prim.Native.Nat.{ℕ, ◌+◌, ◌*◌, ◌/◌, ◌<◌}
 use native.Mathlib.Omega.{arith}
 use borrow.Author.Tests.{ltb-true, ltb-false, not-false}
 use lib.Dec.{ltb, leb}
 use lib.ListN.{length, get_or, get_or-eq_default}
-use Rattle.measure.specs.Choice.{if◌then◌else◌}
 use Rattle.measure.specs.Tests.{by_test}
 use Rattle.measure.specs.Measures.{even, location_of}
 use Rattle.measure.specs.declared.ProgramAddress.{ProgramAddress}

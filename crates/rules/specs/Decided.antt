@@ -19,9 +19,8 @@ use Rattle.permission.specs.declared.Origin.TheVariants.{FromGeneral, FromAuxili
 use Rattle.permission.specs.declared.Segment.{Segment}
 use Rattle.permission.specs.declared.Segment.TheVariants.{General, Auxiliary, Vectors}
 use Rattle.flash.specs.Parts.{start_of}
-use Rattle.flash.specs.Operations.{row_words}
 use Rattle.part.specs.Descriptions.{page_words_of, good_page, good_general, good_auxiliary, good_vector, is_valid, has_auxiliary}
-use Rattle.part.specs.Places.{place_at, is_implemented, vector_words, running_at, from_general, segment_of, target_of}
+use Rattle.part.specs.Places.{place_at, is_implemented, vector_words, running_at, from_general, target_of}
 use Rattle.rules.specs.Rules.{
   next,
   is_shut,
@@ -43,7 +42,7 @@ use Rattle.rules.specs.Rules.{
   decide,
 }
 use Rattle.measure.specs.Tests.{by_test, by_value, never, and_left, and_right, or_left, or_else}
-use Rattle.rules.specs.SecretSegment.{vectors_in, fuse_of, high_in, is_own, own_code, issued_from}
+use Rattle.rules.specs.SecretSegment.{vectors_in, high_in, is_own, own_code, issued_from}
 use Rattle.rules.specs.Harmless.{size_of, OwnChange, Quiet}
 use Rattle.part.specs.declared.Description.{Description}
 use Rattle.event.specs.declared.Event.{Event}

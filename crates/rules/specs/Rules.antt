@@ -1,6 +1,6 @@
 -- Document 01, "The rules": what each event comes to. Nothing here looks at flash but for the words of the vector space, which are
 -- handed in. `d` is the description, `r` the registers. Assumes nothing.
-use Rattle.std.specs.Prelude.{ℕ, ◌+◌, ◌*◌, ◌%◌, Bool, true, false, not, ◌&&◌, ◌||◌, List, eqb, ltb, leb, get_or}
+use Rattle.std.specs.Prelude.{ℕ, ◌+◌, ◌*◌, ◌%◌, Bool, true, false, not, ◌&&◌, ◌||◌, List, leb, get_or}
 use Rattle.measure.specs.Choice.{if◌then◌else◌}
 use Rattle.measure.specs.Measures.{even, address, location_of}
 use Rattle.measure.specs.Words.{word_of}
@@ -9,7 +9,6 @@ use Rattle.measure.specs.declared.InstructionLocation.{InstructionLocation}
 use Rattle.flash.specs.Operations.{row_words}
 use Rattle.fuse.specs.Byte.{stored_byte, level_of, write_protection_of, is_high, is_protected}
 use Rattle.permission.specs.Table.{allowed}
-use Rattle.permission.specs.declared.Operation.{Operation}
 use Rattle.permission.specs.declared.Operation.TheVariants.{Program, Read}
 use Rattle.permission.specs.declared.Origin.{Origin}
 use Rattle.permission.specs.declared.Origin.TheVariants.{FromGeneral, FromAuxiliary}

@@ -16,6 +16,7 @@ use part::Description;
 use permission::Origin;
 
 // Rule 1.
+#[tactic(auto, unfolding(crate::specs::Rules::next))]
 pub(crate) fn next(description: Description, registers: Registers) -> Decision
     requires { registers.pc.0 < 0x800000 }
     ensures { result ≡ next_rule description registers }
@@ -28,6 +29,7 @@ pub(crate) fn next(description: Description, registers: Registers) -> Decision
     }
 }
 
+#[tactic(auto, unfolding(crate::specs::Rules::is_shut))]
 fn is_shut(
     description: Description,
     registers: Registers,
@@ -46,6 +48,7 @@ fn is_shut(
 }
 
 // Rule 2.
+#[tactic(auto, unfolding(crate::specs::Rules::flow_change))]
 pub(crate) fn flow_change(
     description: Description,
     registers: Registers,
@@ -64,6 +67,7 @@ pub(crate) fn flow_change(
 }
 
 // One location for each vector, so that no vector, well-formed or not, has an address that wraps.
+#[tactic(auto, using(crate::proofs::Laws::found_word, crate::proofs::Laws::no_word, crate::proofs::Laws::vector_index))]
 fn vector_word(vectors: &[u32], vector: u32) -> u32
     ensures { result ≡ vector_word vectors.now vector }
 {
@@ -77,6 +81,7 @@ fn vector_word(vectors: &[u32], vector: u32) -> u32
 }
 
 // With origin GS.
+#[tactic(auto, unfolding(crate::specs::Rules::to_vector))]
 fn to_vector(
     description: Description,
     registers: Registers,
@@ -99,6 +104,7 @@ fn to_vector(
 }
 
 // Rule 3.
+#[tactic(auto, unfolding(crate::specs::Rules::interrupt))]
 pub(crate) fn interrupt(
     description: Description,
     registers: Registers,

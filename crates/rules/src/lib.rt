@@ -1,4 +1,6 @@
 // The rules: what each event comes to. Nothing here looks at flash but for the words of the vector space, which are lent.
+#![tactic(auto)]
+
 ghost use Rattle.std.specs.Prelude.{◌≡◌, ◌<◌};
 ghost use Rattle.rules.specs.Rules.{or_refuse, own_rule, is_power_on};
 ghost use Rattle.rules.specs.Promises.{NumberPromise, ValuePromise, DecidePromise};
@@ -13,7 +15,7 @@ mod protection;
 mod words;
 
 // What the student sees.
-#[derive(Drop)]
+#[derive(Clone, Copy)]
 pub enum Answer {
     // With the word read, the bits not set, or 0.
     Done(u32),
@@ -29,14 +31,14 @@ pub enum Answer {
 }
 
 // What is changed in one go: a row is programmed from the latches, a page is erased.
-#[derive(Drop)]
+#[derive(Clone, Copy)]
 pub enum Change {
     Row,
     Page,
 }
 
 // What an event comes to: it is decided first, and then carried out.
-#[derive(Drop)]
+#[derive(Clone, Copy)]
 pub enum Decision {
     // Answer, and change nothing.
     Refuse(Answer),
@@ -56,7 +58,7 @@ pub enum Decision {
 }
 
 // What a decision looks at of a device's state: all but its latches.
-#[derive(Drop)]
+#[derive(Clone, Copy)]
 pub struct Registers {
     pub pc: ProgramAddress,
     pub iopuwr: bool,
@@ -85,6 +87,7 @@ impl Answer {
     }
 
     // The paper's value of the answer.
+    #[tactic(auto, using(crate::proofs::Laws::no_value))]
     pub fn value(self) -> u32
         ensures { ValuePromise self result }
     {
@@ -105,6 +108,7 @@ fn or_refuse(test: bool, decision: Decision, answer: Answer) -> Decision
     }
 }
 
+#[tactic(auto, unfolding(crate::specs::Rules::own_rule))]
 fn own_rule(
     description: Description,
     registers: Registers,
@@ -140,6 +144,7 @@ fn own_rule(
     }
 }
 
+#[tactic(auto, using(crate::proofs::Laws::no_power_on))]
 fn is_power_on(event: Event) -> bool
     ensures { result ≡ is_power_on event }
 {
@@ -150,6 +155,7 @@ fn is_power_on(event: Event) -> bool
 }
 
 // What an event comes to: power-on, then a stopped device, then a PC that is not executable, then the event's own rule.
+#[tactic(auto, using(crate::proofs::Laws::executing_lt), unfolding(crate::specs::Rules::decide, crate::specs::Rules::rule_from))]
 pub fn decide(
     description: Description,
     registers: Registers,

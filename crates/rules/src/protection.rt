@@ -48,6 +48,7 @@ fn releases(keys: bool, old: u8, new: u8) -> bool
 }
 
 // Rule 10.
+#[tactic(auto, unfolding(crate::specs::Rules::program_fgs))]
 pub(crate) fn program_fgs(description: Description, registers: Registers, byte: u8) -> Decision
     ensures { result ≡ program_fgs description registers byte }
 {
@@ -69,6 +70,7 @@ fn is_open(keys: bool, byte: u8) -> bool
 }
 
 // Rule 11.
+#[tactic(auto, unfolding(crate::specs::Rules::program_fas))]
 pub(crate) fn program_fas(description: Description, registers: Registers, byte: u8) -> Decision
     ensures { result ≡ program_fas description registers byte }
 {

@@ -47,6 +47,7 @@ fn may_read(
 }
 
 // Rule 4.
+#[tactic(auto, unfolding(crate::specs::Rules::read_in))]
 pub(crate) fn table_read(
     description: Description,
     registers: Registers,
@@ -98,6 +99,7 @@ fn may_change(
 }
 
 // Rules 6 and 7.
+#[tactic(auto, unfolding(crate::specs::Rules::change_in))]
 pub(crate) fn change_at(
     change: Change,
     description: Description,
