@@ -1,2 +1,3 @@
 pub mod Laws
 mod Unique
+pub mod Decided

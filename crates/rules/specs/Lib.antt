@@ -4,5 +4,4 @@ pub mod Rules
 pub mod Promises
 pub mod SecretSegment
 pub mod Harmless
-pub mod Decided
 pub mod Internals
