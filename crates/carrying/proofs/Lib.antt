@@ -1,1 +1,2 @@
 mod Unique
+pub mod CarriedAlike

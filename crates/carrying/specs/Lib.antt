@@ -1,4 +1,3 @@
 pub mod CarryingOut
 pub mod Promises
 pub mod Alike
-pub mod Carried

@@ -1,4 +1,6 @@
 // Carrying out: what a decision does to the registers, the latches and the two lent arrays.
+#![tactic(auto)]
+
 ghost use Rattle.std.specs.Prelude.{◌≡◌, List, ℕ, set};
 ghost use Rattle.carrying.specs.Promises.{CarryOutPromise};
 ghost use Rattle.flash.specs.Operations.{read_word};
@@ -27,7 +29,7 @@ use part::FlashArray;
 use rules::{Answer, Change, Decision, Registers};
 
 // What carrying out a decision leaves besides the flash and the latches.
-#[derive(Drop)]
+#[derive(Clone, Copy)]
 pub struct Carried {
     pub answer: Answer,
     pub registers: Registers,
@@ -164,6 +166,7 @@ fn read(array: FlashArray, index: usize, general: &[u32], auxiliary: &[u32]) -> 
 }
 
 // The row of an array that holds the index, from the latches, which are blank afterwards.
+#[tactic(auto, unfolding(crate::specs::CarryingOut::program))]
 fn program(
     array: FlashArray,
     index: usize,
@@ -189,6 +192,7 @@ fn program(
 }
 
 // The page of an array that holds the index.
+#[tactic(auto, unfolding(crate::specs::CarryingOut::erase))]
 fn erase(
     page: usize,
     array: FlashArray,
@@ -223,6 +227,7 @@ fn clear(array: FlashArray, general: &mut [u32], auxiliary: &mut [u32])
 }
 
 // A decision, on a device of this page size.
+#[tactic(auto, unfolding(crate::specs::CarryingOut::carry_out))]
 pub fn carry_out(
     page: usize,
     registers: Registers,

@@ -13,10 +13,10 @@ use Rattle.event.specs.Events.{is_well_formed}
 use Rattle.rules.specs.Answers.{number_of}
 use Rattle.rules.specs.Rules.{own_rule, is_power_on, rule_from, decide}
 use Rattle.rules.specs.SecretSegment.{high_in, issued_from}
-use Rattle.rules.specs.Decided.{decide_quiet}
+use Rattle.rules.proofs.Decided.{decide_quiet}
 use Rattle.carrying.specs.CarryingOut.{Device, Left, leaves, carry_out, clear}
 use Rattle.carrying.specs.Alike.{Alike, Known, still_high, all_same, Agree}
-use Rattle.carrying.specs.Carried.{same_agree, answered, carried}
+use Rattle.carrying.proofs.CarriedAlike.{same_agree, answered, carried}
 use Rattle.device.specs.OneEvent.{event_on, is_sized_for, step}
 use Rattle.device.specs.Secret.{after, clearing_erase, Secret}
 use Rattle.part.specs.declared.Description.{Description}

@@ -14,7 +14,6 @@ use Rattle.flash.specs.Parts.{blank, fits, start_of, part, with_part}
 use Rattle.flash.specs.Operations.{read_word, row_words, programmed_words, row_not_set, program_row_at, program_row, erase_range, erase_page}
 use Rattle.flash.specs.declared.WordFound.{WordFound}
 use Rattle.flash.specs.declared.RowProgrammed.{RowProgrammed}
-use Rattle.flash.specs.declared.RowProgrammed.TheVariants.{BitsNotSet, NoRow}
 use Rattle.rules.specs.Answers.{number_of, value_of}
 use Rattle.carrying.specs.CarryingOut.{
   Device,
@@ -49,7 +48,6 @@ use Rattle.rules.specs.declared.Answer.{Answer}
 use Rattle.rules.specs.declared.Answer.TheVariants.{Done, NotStarted, SecurityReset, AddressTrap}
 use Rattle.part.specs.declared.FlashArray.{FlashArray}
 use Rattle.part.specs.declared.FlashArray.TheVariants.{GeneralArray, AuxiliaryArray}
-use Rattle.rules.specs.declared.Change.{Change}
 use Rattle.rules.specs.declared.Change.TheVariants.{Row, Page}
 use Rattle.rules.specs.declared.Decision.{Decision}
 use Rattle.rules.specs.declared.Decision.TheVariants.{
