@@ -1,12 +1,11 @@
 -- Demand 3 of a run over a list of numbers: up to its limit, its end, or the first answer 3 or 4. Assumes nothing.
 use Prim.Native.Nat.{ℕ, zero, suc, ◌+◌, ◌-◌, ◌*◌, ◌<◌, ◌≤◌}
 use Rattle.std.proofs.Common.{arith, sym, ◌∙◌, ltb-true, ltb-false, length-append, length-drop, get_or-append-add}
-use Rattle.std.specs.Prelude.{◌≡◌, refl, Bool, true, false, not, ltb, length, drop, get_or}
+use Rattle.std.specs.Prelude.{◌≡◌, refl, Bool, true, false, not, ltb, length, drop, get_or, if◌then◌else◌}
 use Rattle.std.proofs.Math.Path.{ap}
 use mathlib.Core.List.{List, [], ◌∷◌, ◌++◌}
 use Rattle.std.proofs.lemmas.Bool.{not-false}
 use Rattle.std.proofs.Math.ListN.{get_or-append}
-use Rattle.measure.specs.Choice.{if◌then◌else◌}
 use Rattle.part.specs.Descriptions.{is_valid}
 use Rattle.event.specs.Events.{decode}
 use Rattle.rules.specs.SecretSegment.{issued_from}

@@ -1,6 +1,5 @@
 -- A run does with each well-formed event just what one event by itself does: what decodes is well-formed. Assumes nothing.
-use Rattle.std.specs.Prelude.{ℕ, ◌≡◌, refl, Bool, true, false, not, ◌&&◌, eqb, ltb, leb}
-use Rattle.measure.specs.Choice.{if◌then◌else◌}
+use Rattle.std.specs.Prelude.{ℕ, ◌≡◌, refl, Bool, true, false, not, ◌&&◌, eqb, ltb, leb, if◌then◌else◌}
 use Rattle.measure.specs.Measures.{address}
 use Rattle.measure.specs.Tests.{by_test, and_left}
 use Rattle.part.specs.Descriptions.{is_valid}

@@ -1,4 +1,6 @@
 // The device: its state; one event, a list of events, the lecturer's page view.
+#![tactic(auto)]
+
 ghost use Rattle.std.specs.Prelude.{◌≡◌, take};
 ghost use Rattle.part.specs.Places.{vector_words};
 ghost use Rattle.rules.specs.Rules.{decide};
@@ -23,7 +25,7 @@ mod lists;
 mod views;
 
 // What a device remembers besides its flash.
-#[derive(Drop)]
+#[derive(Clone, Copy)]
 pub struct State {
     pub pc: ProgramAddress,
     pub iopuwr: bool,
@@ -34,14 +36,14 @@ pub struct State {
 }
 
 // What one event leaves besides the flash.
-#[derive(Drop)]
+#[derive(Clone, Copy)]
 pub struct Stepped {
     pub answer: Answer,
     pub state: State,
 }
 
 // What a run leaves besides the flash and the slots: its own answer, and how many events it answered.
-#[derive(Drop)]
+#[derive(Clone, Copy)]
 pub struct Ran {
     pub answer: Answer,
     pub count: usize,
@@ -63,6 +65,7 @@ impl State {
     }
 
     // One event: its answer and the state after it; what it leaves in the flash is in the two lent arrays.
+    #[tactic(auto, unfolding(crate::specs::OneEvent::step))]
     pub fn step(
         self,
         description: Description,
@@ -100,6 +103,7 @@ impl State {
     }
 
     // A list of events, three numbers each, up to its end, the limit, or the first answer 3 or 4; two slots take each answer.
+    #[tactic(auto, unfolding(crate::specs::Lists::run))]
     pub fn run(
         self,
         description: Description,
@@ -165,6 +169,7 @@ fn decided(
 }
 
 // A well-formed event on a good device: decided, then carried out.
+#[tactic(auto, unfolding(crate::specs::OneEvent::event_on))]
 fn event_on(
     description: Description,
     registers: Registers,
@@ -204,6 +209,7 @@ fn not_run(answer: Answer, state: State) -> Ran
 }
 
 // The lecturer's view of the page that holds an address: a part of whichever array has it, or the empty part of the first.
+#[tactic(auto, unfolding(crate::specs::PageView::page_view))]
 pub fn page_view<'a>(
     description: Description,
     general: &'a [u32],

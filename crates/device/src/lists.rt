@@ -37,6 +37,7 @@ fn ends_run(number: u32) -> bool
 }
 
 // What three numbers of a list do to a good device: a malformed event is passed over.
+#[tactic(auto, unfolding(crate::specs::Lists::decoded_on))]
 fn decoded_on(
     description: Description,
     registers: Registers,
@@ -92,9 +93,9 @@ fn listed(
     index: usize,
 ) -> Carried
     requires { (3 * index + 2 < length list.now) × (2 * index + 1 < length slots.old) }
-    ensures fact_1 { leaves result.answer (device_from result.registers latches.new general.new auxiliary.new)
+    ensures left { leaves result.answer (device_from result.registers latches.new general.new auxiliary.new)
         ≡ decoded_on description (device_from registers latches.old general.old auxiliary.old) (event_at list.now index) }
-    ensures fact_2 { slots.new ≡ stored slots.old index result.answer }
+    ensures stored { slots.new ≡ stored slots.old index result.answer }
 {
     let decoded = event_at(list, index);
     let carried = decoded_on(description, registers, latches, general, auxiliary, decoded);
@@ -114,6 +115,7 @@ fn ended(count: usize, state: State) -> Ran
 }
 
 // The events of a list that can be run.
+#[tactic(auto, using(crate::proofs::Runs::joined, crate::proofs::Runs::joined_none, crate::proofs::Runs::joined_start, crate::proofs::Runs::trace_end, crate::proofs::Runs::turn_on, crate::proofs::Runs::turn_stop, crate::proofs::Runs::list_whole, crate::proofs::Runs::list_room))]
 pub(crate) fn run_events(
     state: State,
     description: Description,

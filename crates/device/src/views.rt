@@ -18,6 +18,7 @@ pub(crate) fn vectors_in(general: &[u32]) -> &[u32]
     }
 }
 
+#[tactic(auto, unfolding(crate::specs::PageView::page_in))]
 pub(crate) fn page_in<'a>(
     page: usize,
     general: &'a [u32],

@@ -1,6 +1,5 @@
 -- Document 01, "Events": which events are well-formed, and the three numbers of an event in a list. Assumes nothing.
-use Rattle.std.specs.Prelude.{ℕ, ◌^◌, Bool, true, ◌&&◌, eqb, ltb, leb}
-use Rattle.measure.specs.Choice.{if◌then◌else◌}
+use Rattle.std.specs.Prelude.{ℕ, ◌^◌, Bool, true, ◌&&◌, eqb, ltb, leb, if◌then◌else◌}
 use Rattle.measure.specs.Measures.{address}
 use Rattle.measure.specs.Measures.{even}
 use Rattle.event.specs.declared.Event.{Event}

@@ -1,8 +1,7 @@
 -- Document 01, rules 4, 6 and 7, on one lent array: the word read, the row programmed, the range or page erased, the page.
 -- Assumes nothing.
-use Rattle.std.specs.Prelude.{ℕ, ◌+◌, ltb, eqb, length, get_or, replicate}
+use Rattle.std.specs.Prelude.{ℕ, ◌+◌, ltb, eqb, length, get_or, replicate, if◌then◌else◌}
 use mathlib.Core.List.{List, [], ◌∷◌, zip_with}
-use Rattle.measure.specs.Choice.{if◌then◌else◌}
 use Rattle.measure.specs.Words.{word_of, programmed_word, bits_not_set}
 use Rattle.flash.specs.Parts.{blank, fits, start_of, part, with_part}
 use Rattle.flash.specs.declared.WordFound.{WordFound}

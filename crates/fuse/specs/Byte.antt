@@ -1,6 +1,5 @@
 -- Document 01, "Reading a fuse byte", sentence by sentence. Assumes nothing.
-use Rattle.std.specs.Prelude.{ℕ, ◌/◌, ◌%◌, Bool, true, false, not, ◌&&◌, ◌||◌, eqb}
-use Rattle.measure.specs.Choice.{if◌then◌else◌}
+use Rattle.std.specs.Prelude.{ℕ, ◌/◌, ◌%◌, Bool, true, false, not, ◌&&◌, ◌||◌, eqb, if◌then◌else◌}
 use Rattle.measure.specs.Words.{and_of}
 use Rattle.fuse.specs.declared.Level.{Level}
 use Rattle.fuse.specs.declared.Level.TheVariants.{None, High}

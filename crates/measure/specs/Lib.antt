@@ -1,4 +1,3 @@
-pub mod Choice
 pub mod Tests
 pub mod Measures
 pub mod Words

@@ -1,7 +1,6 @@
 -- Document 01, "The device": a program address counts two for every instruction location.
 -- Assumes nothing.
-use Rattle.std.specs.Prelude.{ℕ, ◌*◌, ◌/◌, ◌%◌, ◌^◌, Bool, eqb, ltb}
-use Rattle.measure.specs.Choice.{if◌then◌else◌}
+use Rattle.std.specs.Prelude.{ℕ, ◌*◌, ◌/◌, ◌%◌, ◌^◌, Bool, eqb, ltb, if◌then◌else◌}
 use Rattle.measure.specs.declared.ProgramAddress.{ProgramAddress}
 use Rattle.measure.specs.declared.InstructionLocation.{InstructionLocation}
 use Rattle.measure.specs.declared.AddressFound.{AddressFound}

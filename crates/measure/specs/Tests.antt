@@ -1,8 +1,7 @@
 -- Proofs by cases on a test. Assumes nothing.
-use Rattle.std.specs.Prelude.{◌≡◌, refl, Bool, true, false, ◌&&◌, ◌||◌}
+use Rattle.std.specs.Prelude.{◌≡◌, refl, Bool, true, false, ◌&&◌, ◌||◌, if◌then◌else◌}
 use Rattle.std.proofs.Common.{sym, ◌∙◌, true≢false}
 use Rattle.std.proofs.lemmas.Bool.{false≢true}
-use Rattle.measure.specs.Choice.{if◌then◌else◌}
 
 pub by_test : {A : Type 0} (P : A → Type 0) (test : Bool) {yes no : A} → (test ≡ true → P yes) → (test ≡ false → P no)
     → P (if test then yes else no)

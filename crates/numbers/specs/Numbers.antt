@@ -1,7 +1,6 @@
 -- A description and a state as plain numbers, in the words of include/pinionclay.h. Assumes nothing.
-use Rattle.std.specs.Prelude.{ℕ, ◌%◌, ◌≡◌, refl, Bool, true, false, not, List, ◌∷◌, eqb, get_or, drop}
+use Rattle.std.specs.Prelude.{ℕ, ◌%◌, ◌≡◌, refl, Bool, true, false, not, List, ◌∷◌, eqb, get_or, drop, if◌then◌else◌}
 use Rattle.std.proofs.Math.Nat.{mod-mod}
-use Rattle.measure.specs.Choice.{if◌then◌else◌}
 use Rattle.measure.specs.Measures.{address}
 use Rattle.part.specs.declared.Description.{Description}
 use Rattle.device.specs.declared.State.{State}

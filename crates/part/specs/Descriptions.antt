@@ -1,6 +1,5 @@
 -- Document 01, "The device": descriptions, the lengths of the arrays, the bench device. Assumes nothing.
-use Rattle.std.specs.Prelude.{ℕ, ◌*◌, Bool, true, not, ◌&&◌, ◌||◌, eqb, leb}
-use Rattle.measure.specs.Choice.{if◌then◌else◌}
+use Rattle.std.specs.Prelude.{ℕ, ◌*◌, Bool, true, not, ◌&&◌, ◌||◌, eqb, leb, if◌then◌else◌}
 use Rattle.measure.specs.Measures.{even, address}
 use Rattle.measure.specs.declared.ProgramAddress.{ProgramAddress}
 use Rattle.part.specs.declared.Description.{Description}

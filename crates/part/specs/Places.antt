@@ -1,7 +1,6 @@
 -- Document 01, "The device" and "Who is running": where an address lies, whose code runs there, and which target it is.
 -- Assumes nothing.
-use Rattle.std.specs.Prelude.{ℕ, ◌+◌, ◌-◌, Bool, true, false, not, ◌||◌, eqb, ltb, leb}
-use Rattle.measure.specs.Choice.{if◌then◌else◌}
+use Rattle.std.specs.Prelude.{ℕ, ◌+◌, ◌-◌, Bool, true, false, not, ◌||◌, eqb, ltb, leb, if◌then◌else◌}
 use Rattle.measure.specs.Measures.{even, address, location_of}
 use Rattle.measure.specs.declared.ProgramAddress.{ProgramAddress}
 use Rattle.measure.specs.declared.InstructionLocation.{InstructionLocation}

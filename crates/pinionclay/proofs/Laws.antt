@@ -1,10 +1,10 @@
 -- A law of `specs/`: a step is the run of a list of one event. Assumes nothing.
+use Rattle.std.specs.Prelude.{if◌then◌else◌}
 use Prim.Native.Nat.{ℕ}
 use mathlib.Core.Path.{◌≡◌}
 use mathlib.Core.List.{List, [], ◌∷◌}
 use lib.Dec.{eqb}
 use lib.ListN.{get_or}
-use Rattle.measure.specs.Choice.{if◌then◌else◌}
 use Rattle.measure.specs.Tests.{by_value}
 use Rattle.part.specs.Descriptions.{is_valid}
 use Rattle.event.specs.Events.{decode}

@@ -1,6 +1,5 @@
 -- An answer is known by its number and value, so a promise that speaks of these fixes the answer itself. Assumes nothing.
-use Rattle.std.specs.Prelude.{ℕ, ◌≡◌, refl, eqb}
-use Rattle.measure.specs.Choice.{if◌then◌else◌}
+use Rattle.std.specs.Prelude.{ℕ, ◌≡◌, refl, eqb, if◌then◌else◌}
 use Rattle.rules.specs.Answers.{number_of, value_of}
 use Rattle.rules.specs.declared.Answer.{Answer}
 use Rattle.rules.specs.declared.Answer.TheVariants.{

@@ -1,7 +1,6 @@
 -- Document 01, "The rules": what each event comes to. Nothing here looks at flash but for the words of the vector space, which are
 -- handed in. `d` is the description, `r` the registers. Assumes nothing.
-use Rattle.std.specs.Prelude.{ℕ, ◌+◌, ◌*◌, ◌%◌, Bool, true, false, not, ◌&&◌, ◌||◌, List, leb, get_or}
-use Rattle.measure.specs.Choice.{if◌then◌else◌}
+use Rattle.std.specs.Prelude.{ℕ, ◌+◌, ◌*◌, ◌%◌, Bool, true, false, not, ◌&&◌, ◌||◌, List, leb, get_or, if◌then◌else◌}
 use Rattle.measure.specs.Measures.{even, address, location_of}
 use Rattle.measure.specs.Words.{word_of}
 use Rattle.measure.specs.declared.ProgramAddress.{ProgramAddress}
