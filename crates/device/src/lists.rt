@@ -115,7 +115,6 @@ fn ended(count: usize, state: State) -> Ran
 }
 
 // The events of a list that can be run.
-#[tactic(auto, using(crate::proofs::Runs::joined, crate::proofs::Runs::joined_none, crate::proofs::Runs::joined_start, crate::proofs::Runs::trace_end, crate::proofs::Runs::turn_on, crate::proofs::Runs::turn_stop, crate::proofs::Runs::list_whole, crate::proofs::Runs::list_room))]
 pub(crate) fn run_events(
     state: State,
     description: Description,
