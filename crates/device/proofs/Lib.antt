@@ -1,3 +1,5 @@
 pub mod Runs
 mod Unique
+pub mod Secrecy
+pub mod SecrecyOfRuns
 mod SecrecyOfContracts

@@ -1,18 +1,18 @@
 -- What a run has come to after some events, and what is left of it. Assumes nothing.
 use Rattle.std.specs.Prelude.{if◌then◌else◌}
 use mathlib.Core.Path.{◌≡◌, refl, sym, ap, ◌∙◌}
-use mathlib.Core.Logic.{⊎_elim, ◌⊎◌}
+use mathlib.Core.Logic.{⊎_elim}
 use mathlib.Core.Bool.{Bool, true, false, ◌&&◌}
-use mathlib.Core.List.{List, [], ◌∷◌, ◌++◌}
+use mathlib.Core.List.{List, [], ◌∷◌}
 use Prim.Native.Nat.{ℕ, zero, suc, ◌+◌, ◌-◌, ◌*◌, ◌/◌, ◌%◌, ◌<◌, ◌≤◌, min}
 use native.Mathlib.Nat.{add-zero, zero-add, eq-zero-or-pos}
 use native.Mathlib.Omega.{arith}
 use borrow.Author.Tests.{eqb-true, leb-true}
 use lib.Dec.{eqb, leb}
-use lib.ListN.{length, get_or, set, drop, drop_of_length-le}
+use lib.ListN.{length, get_or, drop, drop_of_length-le}
 use lib.Seq.{drop-cons, sets, sets-eq}
 use Rattle.measure.specs.Tests.{and_left, and_right}
-use Rattle.rules.specs.Answers.{number_of, value_of}
+use Rattle.rules.specs.Answers.{number_of}
 use Rattle.event.specs.Events.{decode}
 use Rattle.carrying.specs.CarryingOut.{Device, Left, leaves}
 use Rattle.device.specs.Internals.{event_at, stored}

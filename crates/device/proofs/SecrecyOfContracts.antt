@@ -14,8 +14,9 @@ use Rattle.device.specs.States.{device_of}
 use Rattle.device.specs.OneEvent.{step}
 use Rattle.device.specs.Lists.{RunLeft, ran_to, run}
 use Rattle.device.specs.Secret.{after, clearing_erase}
-use Rattle.device.specs.Secrecy.{secrecy_of_one, Kept, kept_after, secrecy}
-use Rattle.device.specs.SecrecyOfRuns.{registers_before, RunsAgree, secrecy_of_runs}
+use Rattle.device.proofs.Secrecy.{secrecy_of_one, Kept, kept_after, secrecy}
+use Rattle.device.specs.SecrecyOfRuns.{registers_before, RunsAgree}
+use Rattle.device.proofs.SecrecyOfRuns.{secrecy_of_runs}
 use Rattle.event.specs.declared.Event.{Event}
 use Rattle.part.specs.declared.Description.{Description}
 use Rattle.part.specs.declared.FlashArray.{FlashArray}

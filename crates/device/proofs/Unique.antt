@@ -1,7 +1,7 @@
 -- No second outcome meets a contract of this crate: `Post` is what the checker reads of the `ensures` clauses of src/.
 -- Assumes nothing.
 use Prim.Native.Nat.{ℕ}
-use mathlib.Core.Path.{◌≡◌, refl, ap}
+use mathlib.Core.Path.{◌≡◌, ap}
 use mathlib.Core.List.{List}
 use Rattle.measure.specs.OneOutcome.{OneOutcome, OneResult, one_outcome}
 use Rattle.rules.specs.KnownAnswers.{answer_of, answer_again}

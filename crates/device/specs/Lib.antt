@@ -6,7 +6,6 @@ pub mod Promises
 pub mod StepByStep
 pub mod Cases
 pub mod Secret
-pub mod Secrecy
 pub mod SecrecyOfRuns
 pub mod SecrecyNotEmpty
 pub mod Internals

@@ -1,5 +1,5 @@
 -- Document 01, "Lists": a run over a list of events. Assumes nothing.
-use Rattle.std.specs.Prelude.{ℕ, zero, suc, ◌+◌, ◌*◌, ◌/◌, ◌%◌, Bool, true, false, not, ◌&&◌, ◌||◌, List, [], ◌∷◌, ◌++◌, eqb, leb, length, drop, if◌then◌else◌}
+use Rattle.std.specs.Prelude.{ℕ, zero, suc, ◌*◌, ◌/◌, ◌%◌, Bool, not, ◌&&◌, ◌||◌, List, [], ◌∷◌, ◌++◌, eqb, leb, length, drop, if◌then◌else◌}
 use Rattle.part.specs.Descriptions.{is_valid}
 use Rattle.rules.specs.Answers.{number_of, value_of}
 use Rattle.event.specs.Events.{decode}

@@ -1,5 +1,5 @@
 -- Document 01, "What the student sees": one event on a device. Assumes nothing.
-use Rattle.std.specs.Prelude.{Bool, true, false, not, length, take, drop, if◌then◌else◌}
+use Rattle.std.specs.Prelude.{Bool, false, not, length, take, if◌then◌else◌}
 use Rattle.measure.specs.Measures.{address}
 use Rattle.part.specs.Descriptions.{page_words_of, is_valid, is_sized}
 use Rattle.part.specs.Places.{vector_words}

@@ -1,5 +1,5 @@
 -- Document 01, "Lists, printed table, page view": the page that holds an address. Assumes nothing.
-use Rattle.std.specs.Prelude.{ℕ, Bool, not, ◌&&◌, List, [], length, if◌then◌else◌}
+use Rattle.std.specs.Prelude.{ℕ, ◌&&◌, List, [], length, if◌then◌else◌}
 use Rattle.measure.specs.declared.ProgramAddress.{ProgramAddress}
 use Rattle.flash.specs.Operations.{page_of}
 use Rattle.measure.specs.Measures.{even}

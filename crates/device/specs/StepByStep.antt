@@ -1,11 +1,11 @@
 -- A run does with each well-formed event just what one event by itself does: what decodes is well-formed. Assumes nothing.
-use Rattle.std.specs.Prelude.{ℕ, ◌≡◌, refl, Bool, true, false, not, ◌&&◌, eqb, ltb, leb, if◌then◌else◌}
+use Rattle.std.specs.Prelude.{ℕ, ◌≡◌, refl, Bool, true, false, ◌&&◌, eqb}
 use Rattle.measure.specs.Measures.{address}
 use Rattle.measure.specs.Tests.{by_test, and_left}
 use Rattle.part.specs.Descriptions.{is_valid}
-use Rattle.event.specs.Events.{good_address, good_word, good_byte, good_vector_number, is_well_formed, given, decode}
+use Rattle.event.specs.Events.{good_address, good_byte, good_vector_number, is_well_formed, given, decode}
 use Rattle.carrying.specs.CarryingOut.{Device}
-use Rattle.device.specs.OneEvent.{event_on, is_sized_for, step}
+use Rattle.device.specs.OneEvent.{is_sized_for, step}
 use Rattle.device.specs.Lists.{decoded_on}
 use Rattle.part.specs.declared.Description.{Description}
 use Rattle.event.specs.declared.Event.{Event}
