@@ -1,4 +1,6 @@
 // A description and a state as plain numbers: what C and Rust hand in and get back.
+#![tactic(auto)]
+
 ghost use Rattle.std.specs.Prelude.{◌≡◌, length};
 ghost use Rattle.numbers.specs.Numbers.{flag_number, state_of, numbers_of};
 ghost use Rattle.numbers.specs.Promises.{DescriptionOfPromise, StateOfPromise, WritePromise};
@@ -23,6 +25,7 @@ fn flag_number(set: bool) -> u32
 }
 
 // One list of numbers, over another as long.
+#[tactic(auto, using(crate::proofs::Laws::copied_more, crate::proofs::Laws::copied_all))]
 fn copy(from: &[u32], to: &mut [u32])
     requires { length from.now ≡ length to.old }
     ensures { to.new ≡ from.now }
@@ -46,6 +49,7 @@ pub fn description_of(numbers: &[u32; DESCRIPTION]) -> Description
     }
 }
 
+#[tactic(auto, using(crate::proofs::Laws::latches_are))]
 fn state_of_slice(numbers: &[u32]) -> State
     requires { length numbers.now ≡ 69 }
     ensures { result ≡ state_of numbers.now }
@@ -68,6 +72,7 @@ pub fn state_of(numbers: &[u32; STATE]) -> State
     state_of_slice(numbers)
 }
 
+#[tactic(auto, using(crate::proofs::Laws::written_is, crate::proofs::Laws::written_length))]
 fn write_slice(state: State, numbers: &mut [u32])
     requires { length numbers.old ≡ 69 }
     ensures { numbers.new ≡ numbers_of state }
