@@ -1,5 +1,5 @@
 -- What a call of the static library leaves. Assumes nothing.
-use Rattle.std.specs.Prelude.{ℕ, Bool, not, List, leb, if◌then◌else◌}
+use Rattle.std.specs.Prelude.{ℕ, not, List, leb, if◌then◌else◌}
 use Rattle.part.specs.Descriptions.{is_valid}
 use Rattle.event.specs.Events.{decode}
 use Rattle.carrying.specs.CarryingOut.{Device, Left, leaves}

@@ -1,4 +1,6 @@
 // The static library: the device over plain numbers, for programs in C and Rust. include/pinionclay.h is its header.
+#![tactic(auto)]
+
 ghost use Rattle.std.specs.Prelude.{◌≡◌};
 ghost use Rattle.pinionclay.specs.Calls.{written};
 ghost use Rattle.pinionclay.specs.Promises.{PinionclayRunPromise, PinionclayStepPromise};
