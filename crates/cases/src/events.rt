@@ -2,6 +2,7 @@
 use crate::{lines, texts};
 use event::{Decoded, Event};
 use measure::ProgramAddress;
+use std::io;
 
 const TABLE_READ: u32 = 4;
 
@@ -22,8 +23,9 @@ pub(crate) fn event_of(kind: u32, a: u32, b: u32) -> Event {
 }
 
 // No event has kind 0.
-fn print_kind(kind: u32) {
+fn print_kind(rt: &impl Print, kind: u32) -> io::Result<()> {
     texts::print_line(
+        rt,
         b"\n\
           next\n\
           flow change to \n\
@@ -38,31 +40,31 @@ fn print_kind(kind: u32) {
           program FAS with \n\
           power-on\n",
         kind,
-    );
+    )
 }
 
-fn print_table_write(address: u32, word: u32) {
-    lines::print_word(address);
-    lines::print(b" of ");
-    lines::print_word(word);
+fn print_table_write(rt: &impl Print, address: u32, word: u32) -> io::Result<()> {
+    lines::print_word(rt, address)?;
+    lines::print(rt, b" of ")?;
+    lines::print_word(rt, word)
 }
 
-pub(crate) fn print_event(kind: u32, a: u32, b: u32) {
-    print_kind(kind);
+pub(crate) fn print_event(rt: &impl Print, kind: u32, a: u32, b: u32) -> io::Result<()> {
+    print_kind(rt, kind)?;
     match kind {
-        2 | 4 | 6 | 7 => lines::print_word(a),
-        3 => lines::print_number(a),
-        5 => print_table_write(a, b),
-        10 | 11 => lines::print_byte(a),
-        _ => {}
+        2 | 4 | 6 | 7 => lines::print_word(rt, a),
+        3 => lines::print_number(rt, a),
+        5 => print_table_write(rt, a, b),
+        10 | 11 => lines::print_byte(rt, a),
+        _ => Ok(()),
     }
 }
 
 // A word that was read is shown as a word, and bits that were not set as a count.
-pub(crate) fn print_value(kind: u32, value: u32) {
+pub(crate) fn print_value(rt: &impl Print, kind: u32, value: u32) -> io::Result<()> {
     if kind == TABLE_READ {
-        lines::print_word(value);
+        lines::print_word(rt, value)
     } else {
-        lines::print_number(value);
+        lines::print_number(rt, value)
     }
 }

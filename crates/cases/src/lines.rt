@@ -1,22 +1,22 @@
 // What a line shows.
 use crate::texts;
-use libc::STDOUT_FILENO;
 use rules::Answer;
+use std::io;
 
-pub(crate) fn print(text: &[u8]) {
-    io::write_all(STDOUT_FILENO, text);
+pub(crate) fn print(rt: &impl Print, text: &[u8]) -> io::Result<()> {
+    rt.write_all(text)
 }
 
-pub(crate) fn print_separator() {
-    print(b" | ");
+pub(crate) fn print_separator(rt: &impl Print) -> io::Result<()> {
+    print(rt, b" | ")
 }
 
-pub(crate) fn print_number(number: u32) {
-    io::print_decimal(STDOUT_FILENO, number as u64);
+pub(crate) fn print_number(rt: &impl Print, number: u32) -> io::Result<()> {
+    print!(rt; "{number}")
 }
 
-pub(crate) fn print_count(count: usize) {
-    io::print_decimal(STDOUT_FILENO, count as u64);
+pub(crate) fn print_count(rt: &impl Print, count: usize) -> io::Result<()> {
+    print!(rt; "{count}")
 }
 
 // In upper case, as the paper writes it.
@@ -29,12 +29,12 @@ fn digit(number: u32) -> u8 {
     }
 }
 
-pub(crate) fn print_byte(byte: u32) {
-    print(&[b'0', b'x', digit(byte / 0x10), digit(byte)]);
+pub(crate) fn print_byte(rt: &impl Print, byte: u32) -> io::Result<()> {
+    print(rt, &[b'0', b'x', digit(byte / 0x10), digit(byte)])
 }
 
 // An address or a word: six digits.
-pub(crate) fn print_word(word: u32) {
+pub(crate) fn print_word(rt: &impl Print, word: u32) -> io::Result<()> {
     let text = [
         b'0',
         b'x',
@@ -45,11 +45,12 @@ pub(crate) fn print_word(word: u32) {
         digit(word / 0x10),
         digit(word),
     ];
-    print(&text);
+    print(rt, &text)
 }
 
-fn print_name(number: u32) {
+fn print_name(rt: &impl Print, number: u32) -> io::Result<()> {
     texts::print_line(
+        rt,
         b"done\n\
           zeroed\n\
           not started\n\
@@ -61,24 +62,24 @@ fn print_name(number: u32) {
           wrong flash length\n\
           bad list\n",
         number,
-    );
+    )
 }
 
 // The answer's number and name, as in the paper's table.
-pub(crate) fn print_answer(answer: Answer) {
+pub(crate) fn print_answer(rt: &impl Print, answer: Answer) -> io::Result<()> {
     let number = answer.number();
-    print_number(number);
-    print_separator();
-    print_name(number);
+    print_number(rt, number)?;
+    print_separator(rt)?;
+    print_name(rt, number)
 }
 
 // The columns of the device.
-pub(crate) fn print_device(fgs: u8, fas: u8, pc: u32) {
-    print_separator();
-    print_byte(fgs as u32);
-    print_separator();
-    print_byte(fas as u32);
-    print_separator();
-    print_word(pc);
-    print_separator();
+pub(crate) fn print_device(rt: &impl Print, fgs: u8, fas: u8, pc: u32) -> io::Result<()> {
+    print_separator(rt)?;
+    print_byte(rt, fgs as u32)?;
+    print_separator(rt)?;
+    print_byte(rt, fas as u32)?;
+    print_separator(rt)?;
+    print_word(rt, pc)?;
+    print_separator(rt)
 }

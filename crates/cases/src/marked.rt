@@ -2,11 +2,12 @@
 use crate::{bench, lines};
 use event::Event;
 use part::Description;
+use std::io;
 
-pub(crate) fn print_all_bytes() {
-    lines::print(b"with FAS 0x33, program FAS is not started with ");
-    lines::print_number(count_not_started());
-    lines::print(b" of the 256 bytes\n");
+pub(crate) fn print_all_bytes(rt: &impl Print) -> io::Result<()> {
+    lines::print(rt, b"with FAS 0x33, program FAS is not started with ")?;
+    lines::print_number(rt, count_not_started())?;
+    lines::print(rt, b" of the 256 bytes\n")
 }
 
 // With how many of the 256 bytes program FAS answers 2, where FAS is 0x33.

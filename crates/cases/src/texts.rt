@@ -1,5 +1,6 @@
 // Texts: numbers and lines in them.
 use crate::lines;
+use std::io;
 
 fn digit(character: u8) -> u32 {
     match character {
@@ -27,22 +28,24 @@ pub(crate) fn first(line: &[u8]) -> u8 {
     if 0 < line.len() { line[0] } else { 0 }
 }
 
-pub(crate) fn print_from(line: &[u8], column: usize) {
+pub(crate) fn print_from(rt: &impl Print, line: &[u8], column: usize) -> io::Result<()> {
     if column < line.len() {
-        lines::print(&line[column..]);
+        lines::print(rt, &line[column..])?;
     }
+    Ok(())
 }
 
 // Prints the line of this number, where the first has number 0.
-pub(crate) fn print_line(text: &[u8], line: u32) {
+pub(crate) fn print_line(rt: &impl Print, text: &[u8], line: u32) -> io::Result<()> {
     let mut passed: u32 = 0;
     let mut at: usize = 0;
     while at < text.len() {
         if text[at] == b'\n' {
-            passed = std::num::wrapping_add_u32(passed, 1);
+            passed = passed.wrapping_add(1);
         } else if passed == line {
-            lines::print(&[text[at]]);
+            lines::print(rt, &[text[at]])?;
         }
         at += 1;
     }
+    Ok(())
 }
