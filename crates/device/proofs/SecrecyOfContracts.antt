@@ -71,7 +71,7 @@ steps_are {d} (more κs arguments result exit post description same rest) =
     let l : step_left κs result exit ≡ step d (step_device κs arguments) arguments.1.1.1.1.0 = rw description at post in
     rw (← same, ← l) (steps_are rest)
 
--- Two chains of one list of events: what they come to is alike, and the next call agrees by `step-secrecy`.
+-- Two chains of one list of events: what they come to is alike, and the next call agrees by `step_secrecy`.
 pub steps_secrecy : {d : Description} {S : FlashArray} {first second last last' : Device} {events : List Event} → Steps d first events last
     → Steps d second events last'
     → Alike S first second
