@@ -199,6 +199,9 @@ fn read_full(input: &mut impl Read, room: &mut [u8]) -> io::Result<usize>
 {
     let mut count: usize = 0;
     for _ in 0..room.len() {
+        if count == room.len() {
+            break;
+        }
         let read = input.read(&mut room[count..])?;
         if read == 0 {
             break;

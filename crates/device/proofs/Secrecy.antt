@@ -1,5 +1,5 @@
 -- Demand 3. What other code learns of a segment at high security: nothing, over any list of events. The statement's words are in
--- Secret.antt. Assumes nothing.
+-- specs/Secret.antt. Assumes nothing.
 use Rattle.std.specs.Prelude.{ℕ, ◌≡◌, refl, Bool, true, false, not, ◌&&◌, List, [], ◌∷◌, ◌++◌, length, take}
 use Rattle.std.proofs.Common.{sym, ap, ◌∙◌, arith}
 use Rattle.std.proofs.Math.Path.{subst}

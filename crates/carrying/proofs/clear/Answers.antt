@@ -1,4 +1,4 @@
--- The whole array was erased.
+-- The whole array was erased. Assumes nothing.
 use Rattle.flash.proofs.Laws.{whole_erased}
 use Rattle.carrying.specs.CarryingOut.{clear}
 use Rattle.carrying.proofs.clear.Goals as goal

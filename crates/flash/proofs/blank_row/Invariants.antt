@@ -1,4 +1,4 @@
--- The words before the place are blank, those from it on are as lent.
+-- The words before the place are blank, those from it on are as lent. Assumes nothing.
 use Rattle.std.specs.Prelude.{◌≡◌, ◌-◌, ◌≤◌, length}
 use Rattle.flash.proofs.Laws.{filled}
 use Rattle.flash.proofs.blank_row.Given as goal

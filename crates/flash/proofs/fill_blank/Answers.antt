@@ -1,4 +1,4 @@
--- A row more, and a word more.
+-- A row more, and a word more. Assumes nothing.
 use borrow.Rule.Slice.PartMut.{same_len_mid}
 use borrow.Author.Fill.{fill_more}
 use Rattle.std.proofs.Common.{◌+◌, ◌-◌, ◌∙◌, arith, length-set}

@@ -1,4 +1,4 @@
--- The row's words, put back.
+-- The row's words, put back. Assumes nothing.
 use Rattle.flash.specs.Operations.{program_row_at}
 use Rattle.std.proofs.Common.{rules}
 use Rattle.flash.proofs.Laws.{fitted, programmed_part}

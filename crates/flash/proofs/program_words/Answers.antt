@@ -1,4 +1,4 @@
--- No word at first, and all words at the end.
+-- No word at first, and all words at the end. Assumes nothing.
 use mathlib.Core.List.{zip_with}
 use Rattle.std.proofs.Common.{◌≡◌, ◌∙◌, refl, arith}
 use Rattle.flash.specs.Operations.{total}

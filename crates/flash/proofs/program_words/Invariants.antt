@@ -1,4 +1,4 @@
--- The words before the index are programmed, those from it on are as lent.
+-- The words before the index are programmed, those from it on are as lent. Assumes nothing.
 use Rattle.std.specs.Prelude.{◌≡◌, ◌-◌, ◌*◌, ◌≤◌, length, take}
 use mathlib.Core.List.{zip_with}
 use Rattle.measure.specs.Words.{programmed_word, bits_not_set}

@@ -1,4 +1,4 @@
--- The words before the place are copied, those from it on are as lent.
+-- The words before the place are copied, those from it on are as lent. Assumes nothing.
 use Rattle.std.specs.Prelude.{◌≡◌, ◌-◌, ◌≤◌, length}
 use Rattle.numbers.proofs.Laws.{copied}
 use Rattle.numbers.proofs.copy.Given as goal

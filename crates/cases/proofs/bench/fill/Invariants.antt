@@ -1,3 +1,4 @@
+-- The array keeps its length. Assumes nothing.
 use Rattle.std.specs.Prelude.{◌≡◌, ◌-◌, ◌≤◌, length}
 use Rattle.cases.proofs.bench.fill.Given as goal
 

@@ -1,3 +1,4 @@
+-- What was read fits the room. Assumes nothing.
 use Rattle.std.specs.Prelude.{◌≤◌, length}
 use Rattle.cases.proofs.bench.read_full.Given as goal
 

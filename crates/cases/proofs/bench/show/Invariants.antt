@@ -1,3 +1,4 @@
+-- The line that is walked lies in the text. Assumes nothing.
 use Rattle.std.specs.Prelude.{◌-◌, ◌≤◌, length}
 use Rattle.cases.proofs.bench.show.Given as goal
 

@@ -1,3 +1,4 @@
+-- No more bytes are counted than were tried. Assumes nothing.
 use Rattle.std.specs.Prelude.{◌-◌, ◌≤◌}
 use Rattle.cases.proofs.marked.count_not_started.Given as goal
 

@@ -1,3 +1,4 @@
+-- The columns come to an end. Assumes nothing.
 use Rattle.std.specs.Prelude.{◌-◌}
 use Rattle.cases.proofs.texts.number.Given as goal
 

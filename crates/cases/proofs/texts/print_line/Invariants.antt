@@ -1,3 +1,4 @@
+-- The text comes to an end. Assumes nothing.
 use Rattle.std.specs.Prelude.{◌-◌, length}
 use Rattle.cases.proofs.texts.print_line.Given as goal
 

@@ -1,4 +1,4 @@
--- One event more, from what `listed` promises; and the two ways in which a run ends.
+-- One event more, from what `listed` promises; and the two ways in which a run ends. Assumes nothing.
 use Rattle.std.proofs.Common.{◌∙◌, ap, sym, arith}
 use Rattle.carrying.specs.CarryingOut.{device_from}
 use Rattle.device.specs.Lists.{ends_run}

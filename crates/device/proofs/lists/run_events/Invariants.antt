@@ -1,4 +1,4 @@
--- What is done, joined with the trace of the rest, is the whole trace.
+-- What is done, joined with the trace of the rest, is the whole trace. Assumes nothing.
 use Rattle.std.specs.Prelude.{◌≡◌, ◌-◌, ◌*◌, ◌≤◌, length, drop}
 use Rattle.carrying.specs.CarryingOut.{device_from}
 use Rattle.device.specs.Lists.{trace_of}

@@ -1,4 +1,4 @@
--- An array with fewer words is its own front.
+-- An array with fewer words is its own front. Assumes nothing.
 use Rattle.std.proofs.Common.{sym, arith}
 use lib.Seq.{take_all}
 use Rattle.part.specs.Places.{vector_words}
