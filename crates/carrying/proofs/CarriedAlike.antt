@@ -2,7 +2,7 @@
 use Prim.Native.Nat.{ℕ, suc, ◌+◌, ◌≤◌, ◌<◌, min}
 use Rattle.std.proofs.Math.Nat.{zero-min, min-zero, suc-min-suc}
 use Rattle.std.proofs.Common.{arith, ◌∙◌, subst, length-append, length-take, length-drop, take-take}
-use Rattle.std.specs.Prelude.{◌≡◌, Bool, false, eqb, ltb, take, drop, set}
+use Rattle.std.specs.Prelude.{◌≡◌, Bool, false, eqb, ltb, take, drop, set, Option, Result}
 use Rattle.std.proofs.Math.Path.{refl, sym, ap}
 use Rattle.std.proofs.Math.Bool.{true}
 use mathlib.Core.List.{List, [], ◌∷◌, ◌++◌, zip_with}
@@ -12,8 +12,8 @@ use Rattle.std.proofs.lemmas.List.{take-append-le}
 use Rattle.std.proofs.Math.Seq.{get_or-take}
 use Rattle.flash.specs.Parts.{blank, fits, start_of, part, with_part}
 use Rattle.flash.specs.Operations.{read_word, row_words, programmed_words, row_not_set, program_row_at, program_row, erase_range, erase_page}
-use Rattle.flash.specs.declared.WordFound.{WordFound}
-use Rattle.flash.specs.declared.RowProgrammed.{RowProgrammed}
+use Rattle.flash.specs.declared.OutsideArray.{OutsideArray}
+use Rattle.part.specs.Places.{in_array}
 use Rattle.rules.specs.Answers.{number_of, value_of}
 use Rattle.carrying.specs.CarryingOut.{
   Device,
@@ -246,23 +246,26 @@ module _ (d : Description) (own : Bool) (p q : Device) where
     carried_on PowerUp = λ _. same (powered_on r) blank_latches (Done 0) h
     carried_on (MoveTo target) = λ _. same (with_pc r target) latches (Done 0) h
     carried_on (LoadLatch latch word) = λ _. same r (set latches latch word) (Done 0) h
-    carried_on (ReadAt array n) =
-        by_array S (λ array. Outcomes (ReadAt array n))
+    carried_on (ReadAt place) =
+        let n = place.index in
+        by_array S (λ array. Outcomes (ReadAt (in_array array n)))
         (λ z. kept S r latches (read_answer (read_word (words_in S p) n)) (read_answer (read_word (words_in S q) n)) k h
         (read_number (words_in S p) (words_in S q) n k.lengths)
-        (λ f. ap (λ (found : WordFound). value_of (read_answer found)) (read_front (words_in S p) (words_in S q) n (vectors_in S) (fronts k) (z refl f))))
+        (λ f. ap (λ (found : Option ℕ). value_of (read_answer found)) (read_front (words_in S p) (words_in S q) n (vectors_in S) (fronts k) (z refl f))))
         (λ z. rw k.other (same r latches (read_answer (read_word (words_in (other_array S) q) n)) h))
-        array
-    carried_on (ChangeAt Row array n) =
-        by_array S (λ array. Outcomes (ChangeAt Row array n)) (λ z. row_carried n (z refl))
+        place.array
+    carried_on (ChangeAt Row place) =
+        let n = place.index in
+        by_array S (λ array. Outcomes (ChangeAt Row (in_array array n))) (λ z. row_carried n (z refl))
         (λ z.
-        let row : RowProgrammed = (program_row (words_in (other_array S) q) n latches).answer in
+        let row : Result ℕ OutsideArray = (program_row (words_in (other_array S) q) n latches).answer in
         rw k.other (elsewhere S r (row_latches latches row) (row_answer row) _ k h))
-        array
-    carried_on (ChangeAt Page array n) =
-        by_array S (λ array. Outcomes (ChangeAt Page array n)) (λ z. page_carried n (z refl))
+        place.array
+    carried_on (ChangeAt Page place) =
+        let n = place.index in
+        by_array S (λ array. Outcomes (ChangeAt Page (in_array array n))) (λ z. page_carried n (z refl))
         (λ z. rw k.other (elsewhere S r latches (erase_answer (erase_page (words_in (other_array S) q) (page_words_of d) n).answer) _ k h))
-        array
+        place.array
     carried_on (EraseWhole array) =
         by_array S (λ array. Outcomes (EraseWhole array))
         (λ z. equal_agree d S own (ap (leaves (Done 0)) (emptied S (with_fuse r S 0x03) latches _ _ k (ap (λ (n : ℕ). replicate n blank) k.lengths))))

@@ -1,16 +1,11 @@
 -- Document 01, "What the student sees", column "Afterwards", and the rules' effects: what a decision does to a device.
 -- Assumes nothing.
-use Rattle.std.specs.Prelude.{ℕ, true, false, List, length, set, replicate}
+use Rattle.std.specs.Prelude.{ℕ, true, false, List, length, set, replicate, Option, Some, None, Result, Ok, Err}
 use Rattle.measure.specs.Measures.{address}
 use Rattle.measure.specs.declared.ProgramAddress.{ProgramAddress}
 use Rattle.flash.specs.Parts.{blank}
 use Rattle.flash.specs.Operations.{row_words, read_word, program_row, erase_page}
-use Rattle.flash.specs.declared.WordFound.{WordFound}
-use Rattle.flash.specs.declared.WordFound.TheVariants.{Word, NoWord}
-use Rattle.flash.specs.declared.RowProgrammed.{RowProgrammed}
-use Rattle.flash.specs.declared.RowProgrammed.TheVariants.{BitsNotSet, NoRow}
-use Rattle.flash.specs.declared.RangeErased.{RangeErased}
-use Rattle.flash.specs.declared.RangeErased.TheVariants.{Blank, NoRange}
+use Rattle.flash.specs.declared.OutsideArray.{OutsideArray}
 use Rattle.rules.specs.Answers.{number_of, value_of}
 use Rattle.rules.specs.declared.Registers.{Registers}
 use Rattle.rules.specs.declared.Answer.{Answer}
@@ -100,22 +95,22 @@ powered_on r = record { pc = address 0; iopuwr = false; stopped = false; fgs = r
 
 -- ---- what an operation on an array comes to
 
-abbrev pub read_answer : WordFound → Answer
-read_answer (Word word) = Done word
-read_answer NoWord = Zeroed
+abbrev pub read_answer : Option ℕ → Answer
+read_answer (Some word) = Done word
+read_answer None = Zeroed
 
-abbrev pub row_answer : RowProgrammed → Answer
-row_answer (BitsNotSet bits) = Done bits
-row_answer NoRow = NotStarted
+abbrev pub row_answer : Result ℕ OutsideArray → Answer
+row_answer (Ok bits) = Done bits
+row_answer (Err outside) = NotStarted
 
 -- Rule 6: "then all latches become 0xFFFFFF"
-abbrev pub row_latches : List ℕ → RowProgrammed → List ℕ
-row_latches latches (BitsNotSet bits) = blank_latches
-row_latches latches NoRow = latches
+abbrev pub row_latches : List ℕ → Result ℕ OutsideArray → List ℕ
+row_latches latches (Ok bits) = blank_latches
+row_latches latches (Err outside) = latches
 
-abbrev pub erase_answer : RangeErased → Answer
-erase_answer Blank = Done 0
-erase_answer NoRange = NotStarted
+abbrev pub erase_answer : Result Unit OutsideArray → Answer
+erase_answer (Ok done) = Done 0
+erase_answer (Err outside) = NotStarted
 
 -- Rule 6: the row that holds the word, programmed from the latches
 unfoldable pub program : FlashArray → ℕ → Device → Left
@@ -135,6 +130,10 @@ clear array device =
     let cleared = with_registers device (with_fuse device.registers array 0x03) in
     leaves (Done 0) (with_words array cleared (replicate (length (words_in array device)) blank))
 
+-- Rules 10 and 11: "stores the byte, masked"
+abbrev pub store_fuse : FlashArray → ℕ → Device → Left
+store_fuse array byte device = leaves (Done 0) (with_registers device (with_fuse device.registers array byte))
+
 -- ---- carrying out, on a device of this page size
 
 unfoldable pub carry_out : ℕ → Device → Decision → Left
@@ -145,8 +144,8 @@ carry_out page device Reset =
 carry_out page device PowerUp = leaves (Done 0) (with_latches (with_registers device (powered_on device.registers)) blank_latches)
 carry_out page device (MoveTo target) = leaves (Done 0) (with_registers device (with_pc device.registers target))
 carry_out page device (LoadLatch latch word) = leaves (Done 0) (with_latches device (set device.latches latch word))
-carry_out page device (ReadAt array n) = leaves (read_answer (read_word (words_in array device) n)) device
-carry_out page device (ChangeAt Row array n) = program array n device
-carry_out page device (ChangeAt Page array n) = erase page array n device
+carry_out page device (ReadAt place) = leaves (read_answer (read_word (words_in place.array device) place.index)) device
+carry_out page device (ChangeAt Row place) = program place.array place.index device
+carry_out page device (ChangeAt Page place) = erase page place.array place.index device
 carry_out page device (EraseWhole array) = clear array device
-carry_out page device (StoreFuse array byte) = leaves (Done 0) (with_registers device (with_fuse device.registers array byte))
+carry_out page device (StoreFuse array byte) = store_fuse array byte device

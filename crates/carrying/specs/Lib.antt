@@ -1,3 +1,4 @@
 pub mod CarryingOut
+pub mod Lent
 pub mod Promises
 pub mod Alike

@@ -1,9 +1,11 @@
 -- What the public function of this crate promises. Assumes nothing.
-use Rattle.std.specs.Prelude.{◌≡◌, ℕ}
+use Rattle.std.specs.Prelude.{ℕ}
 use Rattle.rules.specs.declared.Answer.{Answer}
 use Rattle.rules.specs.declared.Decision.{Decision}
-use Rattle.carrying.specs.CarryingOut.{Device, leaves, carry_out}
+use Rattle.carrying.specs.CarryingOut.{carry_out}
+use Rattle.carrying.specs.Lent.{as_device, Leaves}
+use Rattle.carrying.specs.declared.LentDevice.{LentDevice}
 
 -- the answer's number and value, the registers, the latches, and both arrays at exit
-abbrev pub CarryOutPromise : ℕ → Device → Decision → Answer → Device → Type 0
-CarryOutPromise page device decision answer after = leaves answer after ≡ carry_out page device decision
+abbrev pub CarryOutPromise : ℕ → LentDevice → Decision → Answer → LentDevice → Type 0
+CarryOutPromise page old decision answer new = Leaves answer old new (carry_out page (as_device old) decision)

@@ -1,70 +1,77 @@
 // Events in three numbers, as in a list: kind, A and B.
-use crate::{lines, texts};
-use event::{Decoded, Event};
+use crate::shown::{Byte, Word};
+use event::Event;
 use measure::ProgramAddress;
-use std::io;
+use rules::Answer;
+use std::fmt;
+
+const FLOW_CHANGE: u32 = 2;
 
 const TABLE_READ: u32 = 4;
 
-// An odd target, an odd address, or a vector that is not there.
-fn malformed(kind: u32, a: u32) -> Event {
-    match kind {
-        2 => Event::FlowChange(ProgramAddress(a)),
-        4 => Event::TableRead(ProgramAddress(a)),
-        _ => Event::Interrupt(a),
+// They stay numbers, since a line shows what the input says, a malformed event too.
+#[derive(Clone, Copy)]
+pub(crate) struct EventNumbers {
+    pub(crate) kind: u32,
+    pub(crate) a: u32,
+    pub(crate) b: u32,
+}
+
+// An answer's value: a word that was read, or a count of bits that were not set.
+#[derive(Clone, Copy)]
+pub(crate) enum Value {
+    Read(Word),
+    Count(u32),
+}
+
+impl EventNumbers {
+    pub(crate) fn event(self) -> Event {
+        event::decode(self.kind, self.a, self.b).unwrap_or_else(|| self.malformed())
+    }
+
+    // An odd target, an odd address, or a vector that is not there.
+    fn malformed(self) -> Event {
+        match self.kind {
+            FLOW_CHANGE => Event::FlowChange(ProgramAddress(self.a)),
+            TABLE_READ => Event::TableRead(ProgramAddress(self.a)),
+            _ => Event::Interrupt(self.a),
+        }
+    }
+
+    pub(crate) fn value(self, answer: Answer) -> Value {
+        match self.kind {
+            TABLE_READ => Value::Read(Word(answer.value())),
+            _ => Value::Count(answer.value()),
+        }
     }
 }
 
-pub(crate) fn event_of(kind: u32, a: u32, b: u32) -> Event {
-    match event::decode(kind, a, b) {
-        Decoded::WellFormed(event) => event,
-        Decoded::Malformed => malformed(kind, a),
+impl fmt::Display for EventNumbers {
+    fn fmt<W: fmt::Write>(&self, f: &mut fmt::Formatter<W>) -> fmt::Result {
+        let EventNumbers { kind, a, b } = *self;
+        match kind {
+            1 => write!(f, "next"),
+            FLOW_CHANGE => write!(f, "flow change to {}", Word(a)),
+            3 => write!(f, "interrupt, vector {a}"),
+            TABLE_READ => write!(f, "table read at {}", Word(a)),
+            5 => write!(f, "table write at {} of {}", Word(a), Word(b)),
+            6 => write!(f, "program row at {}", Word(a)),
+            7 => write!(f, "erase page at {}", Word(a)),
+            8 => write!(f, "erase GS and VS, clear FGS"),
+            9 => write!(f, "erase AS, clear FAS"),
+            10 => write!(f, "program FGS with {}", Byte(a)),
+            11 => write!(f, "program FAS with {}", Byte(a)),
+            12 => write!(f, "power-on"),
+            _ => Ok(()),
+        }
     }
 }
 
-// No event has kind 0.
-fn print_kind(rt: &impl Print, kind: u32) -> io::Result<()> {
-    texts::print_line(
-        rt,
-        b"\n\
-          next\n\
-          flow change to \n\
-          interrupt, vector \n\
-          table read at \n\
-          table write at \n\
-          program row at \n\
-          erase page at \n\
-          erase GS and VS, clear FGS\n\
-          erase AS, clear FAS\n\
-          program FGS with \n\
-          program FAS with \n\
-          power-on\n",
-        kind,
-    )
-}
-
-fn print_table_write(rt: &impl Print, address: u32, word: u32) -> io::Result<()> {
-    lines::print_word(rt, address)?;
-    lines::print(rt, b" of ")?;
-    lines::print_word(rt, word)
-}
-
-pub(crate) fn print_event(rt: &impl Print, kind: u32, a: u32, b: u32) -> io::Result<()> {
-    print_kind(rt, kind)?;
-    match kind {
-        2 | 4 | 6 | 7 => lines::print_word(rt, a),
-        3 => lines::print_number(rt, a),
-        5 => print_table_write(rt, a, b),
-        10 | 11 => lines::print_byte(rt, a),
-        _ => Ok(()),
-    }
-}
-
-// A word that was read is shown as a word, and bits that were not set as a count.
-pub(crate) fn print_value(rt: &impl Print, kind: u32, value: u32) -> io::Result<()> {
-    if kind == TABLE_READ {
-        lines::print_word(rt, value)
-    } else {
-        lines::print_number(rt, value)
+impl fmt::Display for Value {
+    fn fmt<W: fmt::Write>(&self, f: &mut fmt::Formatter<W>) -> fmt::Result {
+        match self {
+            Value::Read(word) => write!(f, "{word}"),
+            Value::Count(count) => write!(f, "{count}"),
+        }
     }
 }

@@ -1,85 +1,68 @@
-// What a line shows.
-use crate::texts;
-use rules::Answer;
+// The lines of the input, as the file `stdin`: a case more there needs no proof.
+use crate::bench::{Bench, WholeBench};
+use crate::case::{self, Case};
+use crate::marked;
+use crate::shown::{DeviceColumns, NamedAnswer, Word};
+use part::Description;
 use std::io;
+use std::io::{Input, Read};
 
-pub(crate) fn print(rt: &impl Print, text: &[u8]) -> io::Result<()> {
-    rt.write_all(text)
+// The most bytes of lines that are read.
+const ROOM: usize = 16384;
+
+// On the bench device. A line without an end is left out, and with it the room that the input leaves.
+pub(crate) fn show_input(rt: &(impl Print + Input)) -> io::Result<()> {
+    let mut bench = WholeBench::new(Description::bench());
+    let mut room = [0; ROOM];
+    io::copy(&mut rt.reader().take(ROOM as u64), &mut room.as_mut_slice())?;
+    for line in room.split_inclusive(|byte| *byte == b'\n') {
+        if let Some(line) = line.strip_suffix(b"\n") {
+            bench.obey(rt, line)?;
+        }
+    }
+    Ok(())
 }
 
-pub(crate) fn print_separator(rt: &impl Print) -> io::Result<()> {
-    print(rt, b" | ")
-}
+impl<const GENERAL: usize, const AUXILIARY: usize> Bench<GENERAL, AUXILIARY> {
+    pub(crate) fn obey_all(&mut self, rt: &impl Print, lines: &[&str]) -> io::Result<()> {
+        for line in lines {
+            self.obey(rt, line.as_bytes())?;
+        }
+        Ok(())
+    }
 
-pub(crate) fn print_number(rt: &impl Print, number: u32) -> io::Result<()> {
-    print!(rt; "{number}")
-}
+    // A line that starts as none of these is a remark.
+    fn obey(&mut self, rt: &impl Print, line: &[u8]) -> io::Result<()> {
+        let Some((first, rest)) = line.split_first() else {
+            return Ok(());
+        };
+        match *first {
+            b'.' | b'0'..=b'9' => self.show(rt, Case::read(line))?,
+            b'>' => print_text(rt, rest)?,
+            b'=' => self.put(case::number(rest, 0, 6), case::number(rest, 7, 6)),
+            b'~' => self.fill(case::number(rest, 0, 6)),
+            b'*' => marked::print(rt)?,
+            _ => {}
+        }
+        Ok(())
+    }
 
-pub(crate) fn print_count(rt: &impl Print, count: usize) -> io::Result<()> {
-    print!(rt; "{count}")
-}
-
-// In upper case, as the paper writes it.
-fn digit(number: u32) -> u8 {
-    let low = (number % 16) as u8;
-    if low < 10 {
-        b'0' + low
-    } else {
-        b'A' - 10 + low
+    fn show(&mut self, rt: &impl Print, case: Case) -> io::Result<()> {
+        if let Some(device) = case.device {
+            self.state = device;
+        }
+        let event = case.event;
+        let before = DeviceColumns(self.state);
+        let answer = self.step(event.event());
+        let value = event.value(answer);
+        let answer = NamedAnswer(answer);
+        let pc = Word(self.state.pc.0);
+        rt.write_all(case.title)?;
+        println!(rt; " | {before} | {event} | {answer} | {value} | {pc}")
     }
 }
 
-pub(crate) fn print_byte(rt: &impl Print, byte: u32) -> io::Result<()> {
-    print(rt, &[b'0', b'x', digit(byte / 0x10), digit(byte)])
-}
-
-// An address or a word: six digits.
-pub(crate) fn print_word(rt: &impl Print, word: u32) -> io::Result<()> {
-    let text = [
-        b'0',
-        b'x',
-        digit(word / 0x100000),
-        digit(word / 0x10000),
-        digit(word / 0x1000),
-        digit(word / 0x100),
-        digit(word / 0x10),
-        digit(word),
-    ];
-    print(rt, &text)
-}
-
-fn print_name(rt: &impl Print, number: u32) -> io::Result<()> {
-    texts::print_line(
-        rt,
-        b"done\n\
-          zeroed\n\
-          not started\n\
-          security reset\n\
-          address trap\n\
-          stopped\n\
-          malformed event\n\
-          bad description\n\
-          wrong flash length\n\
-          bad list\n",
-        number,
-    )
-}
-
-// The answer's number and name, as in the paper's table.
-pub(crate) fn print_answer(rt: &impl Print, answer: Answer) -> io::Result<()> {
-    let number = answer.number();
-    print_number(rt, number)?;
-    print_separator(rt)?;
-    print_name(rt, number)
-}
-
-// The columns of the device.
-pub(crate) fn print_device(rt: &impl Print, fgs: u8, fas: u8, pc: u32) -> io::Result<()> {
-    print_separator(rt)?;
-    print_byte(rt, fgs as u32)?;
-    print_separator(rt)?;
-    print_byte(rt, fas as u32)?;
-    print_separator(rt)?;
-    print_word(rt, pc)?;
-    print_separator(rt)
+fn print_text(rt: &impl Print, text: &[u8]) -> io::Result<()> {
+    rt.write_all(text)?;
+    println!(rt)
 }

@@ -4,19 +4,18 @@
 use std::io;
 
 mod bench;
+mod case;
 mod events;
 mod lines;
 mod marked;
 mod refusals;
 mod runs;
-mod texts;
+mod shown;
 mod views;
 
 fn main(rt: HostRuntime) -> io::Result<()> {
-    bench::show_read(&rt)?;
-    refusals::print_bad_description(&rt)?;
-    refusals::print_short_general(&rt)?;
-    refusals::print_short_auxiliary(&rt)?;
+    lines::show_input(&rt)?;
+    refusals::print(&rt)?;
     runs::print(&rt)?;
     views::print(&rt)
 }

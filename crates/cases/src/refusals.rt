@@ -1,44 +1,33 @@
 // Document 01, "What the student sees": the refusals of one event that tell of the description or the arrays.
-use crate::bench;
+use crate::bench::{AUXILIARY_WORDS, Bench, GENERAL_WORDS, WholeBench};
 use part::Description;
 use std::io;
 
+const SHORT_GENERAL: usize = GENERAL_WORDS - 1;
+
+const SHORT_AUXILIARY: usize = AUXILIARY_WORDS - 1;
+
 // No part has pages of 256 words.
-pub(crate) fn print_bad_description(rt: &impl Print) -> io::Result<()> {
-    let mut general = [flash::BLANK; bench::GENERAL];
-    let mut auxiliary = [flash::BLANK; bench::AUXILIARY];
-    let mut description = Description::bench();
-    description.page_words = 256;
-    bench::show(
-        rt,
-        b"000400 03 03 01 000000 000000 the description says pages of 256 words\n\
-          000400 03 03 03 0000FE 000000 a bad description is named before a malformed event\n",
-        description,
-        &mut general,
-        &mut auxiliary,
-    )
-}
+const BAD_DESCRIPTION: [&str; 2] = [
+    "000400 03 03 01 000000 000000 the description says pages of 256 words",
+    "000400 03 03 03 0000FE 000000 a bad description is named before a malformed event",
+];
 
-pub(crate) fn print_short_general(rt: &impl Print) -> io::Result<()> {
-    let mut general = [flash::BLANK; bench::GENERAL - 1];
-    let mut auxiliary = [flash::BLANK; bench::AUXILIARY];
-    bench::show(
+pub(crate) fn print(rt: &impl Print) -> io::Result<()> {
+    let bench = Description::bench();
+    let bad = Description {
+        page_words: 256,
+        ..bench
+    };
+    WholeBench::new(bad).obey_all(rt, &BAD_DESCRIPTION)?;
+    Bench::<SHORT_GENERAL, AUXILIARY_WORDS>::new(bench).obey_all(
         rt,
-        b"000400 03 03 01 000000 000000 the GS array is a word short\n",
-        Description::bench(),
-        &mut general,
-        &mut auxiliary,
-    )
-}
-
-pub(crate) fn print_short_auxiliary(rt: &impl Print) -> io::Result<()> {
-    let mut general = [flash::BLANK; bench::GENERAL];
-    let mut auxiliary = [flash::BLANK; bench::AUXILIARY - 1];
-    bench::show(
+        &["000400 03 03 01 000000 000000 the GS array is a word short"],
+    )?;
+    Bench::<GENERAL_WORDS, SHORT_AUXILIARY>::new(bench).obey_all(
         rt,
-        b"000400 03 03 03 0000FE 000000 the AS array is a word short, which is named before a malformed event\n",
-        Description::bench(),
-        &mut general,
-        &mut auxiliary,
+        &[
+            "000400 03 03 03 0000FE 000000 the AS array is a word short, which is named before a malformed event",
+        ],
     )
 }

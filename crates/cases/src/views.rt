@@ -1,53 +1,42 @@
 // Document 01, the lecturer's page view.
-use crate::{bench, lines, texts};
-use measure::ProgramAddress;
+use crate::bench::WholeBench;
+use crate::shown::Word;
 use part::Description;
-use std::io;
+use std::{fmt, io};
+
+const CASES: [(&str, u32); 4] = [
+    ("the page of GS that starts at 0x000400", 0x000612),
+    ("the last page of AS, which starts at 0x7FFC00", 0x7FFFFE),
+    ("an address where there is no memory", 0x002800),
+    ("an odd address", 0x000401),
+];
 
 pub(crate) fn print(rt: &impl Print) -> io::Result<()> {
-    lines::print(rt, b"\nPage view\ncase | address | words | first word\n")?;
-    let titles = b"the page of GS that starts at 0x000400\n\
-                   the last page of AS, which starts at 0x7FFC00\n\
-                   an address where there is no memory\n\
-                   an odd address\n";
-    show(rt, titles, 0, 0x000612)?;
-    show(rt, titles, 1, 0x7FFFFE)?;
-    show(rt, titles, 2, 0x002800)?;
-    show(rt, titles, 3, 0x000401)
-}
-
-fn show(rt: &impl Print, titles: &[u8], title: u32, address: u32) -> io::Result<()> {
-    texts::print_line(rt, titles, title)?;
-    lines::print_separator(rt)?;
-    lines::print_word(rt, address)?;
-    lines::print_separator(rt)?;
-    show_page(rt, address)
-}
-
-// The page that holds an address. The first words of the two pages that are looked for tell them from all others.
-fn show_page(rt: &impl Print, address: u32) -> io::Result<()> {
-    let mut general = [flash::BLANK; bench::GENERAL];
-    let mut auxiliary = [flash::BLANK; bench::AUXILIARY];
-    bench::put(&mut general, 0x000400, bench::WORD);
-    bench::put(&mut auxiliary, 0x7FFC00 - 0x7FF000, 0x654321);
-    print_part(
-        rt,
-        device::page_view(
-            Description::bench(),
-            &general,
-            &auxiliary,
-            ProgramAddress(address),
-        ),
-    )
-}
-
-fn print_part(rt: &impl Print, part: &[u32]) -> io::Result<()> {
-    lines::print_count(rt, part.len())?;
-    lines::print_separator(rt)?;
-    if 0 < part.len() {
-        lines::print_word(rt, part[0])?;
-    } else {
-        lines::print(rt, b"none")?;
+    println!(rt; "\nPage view\ncase | address | words | first word")?;
+    let mut bench = WholeBench::new(Description::bench());
+    // The first words of the two pages that are looked for tell them from all others.
+    bench.put(0x000400, 0x123456);
+    bench.put(0x7FFC00, 0x654321);
+    for (title, address) in CASES {
+        println!(rt;
+            "{title} | {} | {}",
+            Word(address),
+            Page(bench.page(address))
+        )?;
     }
-    lines::print(rt, b"\n")
+    Ok(())
+}
+
+// How many words a view has, and the first.
+#[derive(Drop)]
+struct Page<'a>(&'a [u32]);
+
+impl fmt::Display for Page<'_> {
+    fn fmt<W: fmt::Write>(&self, f: &mut fmt::Formatter<W>) -> fmt::Result {
+        let words = self.0;
+        match words.first() {
+            Some(first) => write!(f, "{} | {}", words.len(), Word(*first)),
+            None => write!(f, "{} | none", words.len()),
+        }
+    }
 }

@@ -15,11 +15,24 @@ use Rattle.measure.specs.Tests.{and_left, and_right}
 use Rattle.rules.specs.Answers.{number_of}
 use Rattle.event.specs.Events.{decode}
 use Rattle.carrying.specs.CarryingOut.{Device, Left, leaves}
+use Rattle.carrying.specs.Lent.{SameArrays}
+use Rattle.carrying.specs.declared.LentDevice.{LentDevice}
 use Rattle.device.specs.Internals.{event_at, stored}
 use Rattle.device.specs.Lists.{decoded_on, ends_run, Trace, no_event, and_then, trace_of, RunLeft, ran_to, told, is_good_list}
 use Rattle.part.specs.declared.Description.{Description}
 use Rattle.rules.specs.declared.Answer.{Answer}
-use Rattle.rules.specs.declared.Answer.TheVariants.{Done}
+use Rattle.rules.specs.declared.Answer.TheVariants.{
+  Done,
+  Zeroed,
+  NotStarted,
+  SecurityReset,
+  AddressTrap,
+  Stopped,
+  MalformedEvent,
+  BadDescription,
+  WrongFlashLength,
+  BadList,
+}
 
 -- ---- what a good list is
 
@@ -127,3 +140,22 @@ joined_start d limit device list slots h =
     let l : 0 + length t.answers ≤ length slots =
     omega (arith, answers_le d limit device list, list_whole (length list) (length slots) h, list_room (length list) (length slots) h) in
     rw (sets-eq t.answers slots 0 l, zero-add t.count, zero-add (length t.answers))
+
+-- ---- which answers end a run
+
+pub runs_on : (answer : Answer) → (answer ≡ SecurityReset → ⊥) → (answer ≡ AddressTrap → ⊥) → ends_run (number_of answer) ≡ false
+runs_on (Done value) reset trap = refl
+runs_on Zeroed reset trap = refl
+runs_on NotStarted reset trap = refl
+runs_on SecurityReset reset trap = absurd (reset refl)
+runs_on AddressTrap reset trap = absurd (trap refl)
+runs_on Stopped reset trap = refl
+runs_on MalformedEvent reset trap = refl
+runs_on BadDescription reset trap = refl
+runs_on WrongFlashLength reset trap = refl
+runs_on BadList reset trap = refl
+
+-- ---- the arrays that a device holds, over two steps
+
+pub arrays_still : {first second third : LentDevice} → SameArrays first second → SameArrays second third → SameArrays first third
+arrays_still p q = record { general = q.general ∙ p.general; auxiliary = q.auxiliary ∙ p.auxiliary }

@@ -7,6 +7,7 @@ use Rattle.std.proofs.lemmas.Bool.{not-false}
 use Rattle.measure.specs.Words.{and_of}
 use Rattle.measure.specs.Tests.{by_test, by_both, never}
 use Rattle.fuse.specs.Byte.{stored_byte, level_of, is_high}
+use Rattle.permission.specs.declared.Origin.{Origin}
 use Rattle.part.specs.Descriptions.{page_words_of, is_valid, has_auxiliary}
 use Rattle.part.specs.Places.{vector_words, running_at, from_general}
 use Rattle.event.specs.Events.{is_well_formed}
@@ -25,8 +26,7 @@ use Rattle.rules.specs.declared.Answer.{Answer}
 use Rattle.rules.specs.declared.Answer.TheVariants.{NotStarted, Stopped, MalformedEvent, BadDescription, WrongFlashLength}
 use Rattle.part.specs.declared.FlashArray.{FlashArray}
 use Rattle.part.specs.declared.FlashArray.TheVariants.{GeneralArray, AuxiliaryArray}
-use Rattle.part.specs.declared.Running.{Running}
-use Rattle.part.specs.declared.Running.TheVariants.{NotExecutable, Executing}
+use Rattle.std.specs.Prelude.{Option, Some, None}
 use Rattle.rules.specs.declared.Registers.{Registers}
 use Rattle.rules.specs.declared.Decision.{Decision}
 use Rattle.rules.specs.declared.Decision.TheVariants.{Refuse, Trap, EraseWhole}
@@ -129,14 +129,14 @@ module _ (d : Description) (S : FlashArray) (p : Device) where
   unfolding carry_out
   trap_releases e = absurd (omega arith)
 
-rule_releases : (d : Description) (S : FlashArray) (p : Device) (r : Registers) (vectors : List ℕ) (running : Running)
+rule_releases : (d : Description) (S : FlashArray) (p : Device) (r : Registers) (vectors : List ℕ) (running : Option Origin)
     → Releases d S p (rule_from d r vectors (clearing_erase S) running)
 unfolding rule_from own_rule
-rule_releases d S p r vectors NotExecutable = trap_releases d S p
-rule_releases d GeneralArray p r vectors (Executing origin) =
+rule_releases d S p r vectors None = trap_releases d S p
+rule_releases d GeneralArray p r vectors (Some origin) =
     by_test (Releases d GeneralArray p) (not (from_general origin)) (λ _. whole_releases d GeneralArray p)
     (λ _. refuse_releases d GeneralArray p NotStarted (λ e. omega arith))
-rule_releases d AuxiliaryArray p r vectors (Executing origin) =
+rule_releases d AuxiliaryArray p r vectors (Some origin) =
     by_test (Releases d AuxiliaryArray p) (from_general origin && has_auxiliary d) (λ _. whole_releases d AuxiliaryArray p)
     (λ _. refuse_releases d AuxiliaryArray p NotStarted (λ e. omega arith))
 

@@ -6,6 +6,7 @@ use Rattle.std.proofs.Math.Path.{ap}
 use mathlib.Core.List.{List, [], ◌∷◌, ◌++◌}
 use Rattle.std.proofs.lemmas.Bool.{not-false}
 use Rattle.std.proofs.Math.ListN.{get_or-append}
+use Rattle.event.specs.declared.Event.{Event}
 use Rattle.part.specs.Descriptions.{is_valid}
 use Rattle.event.specs.Events.{decode}
 use Rattle.rules.specs.SecretSegment.{issued_from}
@@ -20,8 +21,7 @@ use Rattle.rules.specs.declared.Registers.{Registers}
 use Rattle.rules.specs.declared.Answer.{Answer}
 use Rattle.rules.specs.declared.Answer.TheVariants.{MalformedEvent, BadDescription, WrongFlashLength, BadList}
 use Rattle.part.specs.declared.FlashArray.{FlashArray}
-use Rattle.event.specs.declared.Decoded.{Decoded}
-use Rattle.event.specs.declared.Decoded.TheVariants.{WellFormed, Malformed}
+use Rattle.std.specs.Prelude.{Option, Some, None}
 use Rattle.device.specs.SecrecyOfRuns.{registers_before, RunsAgree}
 
 -- ---- the answers of two traces
@@ -91,12 +91,12 @@ module _ (d : Description) (S : FlashArray) where
       (λ _. no_traces (λ index. before (suc index)) l.device m.device g.alike g.known)
       (λ f. renamed (λ index. before (suc index)) later t u (e f) r)))
 
-  decoded_agrees : is_valid d ≡ true → (decoded : Decoded) (p q : Device) → Alike S p q → Known d S p q
+  decoded_agrees : is_valid d ≡ true → (decoded : Option Event) (p q : Device) → Alike S p q → Known d S p q
       → Agree d S (issued_from d S p.registers) (decoded_on d p decoded) (decoded_on d q decoded)
   unfolding decoded_on
-  decoded_agrees v Malformed p q k w =
+  decoded_agrees v None p q k w =
       while_high d S p q (leaves MalformedEvent) w (λ h. answer_agrees d S p q k h MalformedEvent)
-  decoded_agrees v (WellFormed event) p q k w =
+  decoded_agrees v (Some event) p q k w =
       while_high d S p q (λ device. event_on d device event) w (λ h. event_agrees d S p q k h v event)
 
   traces : is_valid d ≡ true → (limit : ℕ) (list : List ℕ) (p q : Device) → Alike S p q → Known d S p q

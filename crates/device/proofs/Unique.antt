@@ -13,6 +13,10 @@ use Rattle.device.specs.declared.Ran.{Ran}
 use Rattle.rules.specs.declared.Answer.{Answer}
 use Rattle.device.proofs.State.new.Kinds as new_kinds
 use Rattle.device.proofs.State.new.Reads as new_reads
+use Rattle.device.proofs.RegistersFromState.from.Kinds as registers_from_kinds
+use Rattle.device.proofs.RegistersFromState.from.Reads as registers_from_reads
+use Rattle.device.proofs.StateFromRefLentDevice.from.Kinds as state_from_kinds
+use Rattle.device.proofs.StateFromRefLentDevice.from.Reads as state_from_reads
 use Rattle.device.proofs.State.step.Kinds as step_kinds
 use Rattle.device.proofs.State.step.Reads as step_reads
 use Rattle.device.proofs.State.run.Kinds as run_kinds
@@ -22,6 +26,12 @@ use Rattle.device.proofs.page_view.Reads as page_view_reads
 
 pub new_unique : OneResult 0 new_kinds.ps new_kinds.r new_reads.Post
 new_unique κs arguments r r' e e' p q = one_outcome p q
+
+pub registers_from_unique : OneResult 0 registers_from_kinds.ps registers_from_kinds.r registers_from_reads.Post
+registers_from_unique κs arguments r r' e e' p q = one_outcome p q
+
+pub state_from_unique : OneResult 4 state_from_kinds.ps state_from_kinds.r state_from_reads.Post
+state_from_unique κs arguments r r' e e' p q = one_outcome p q
 
 -- ---- one event: the result, and both arrays at exit
 

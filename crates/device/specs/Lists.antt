@@ -1,5 +1,5 @@
 -- Document 01, "Lists": a run over a list of events. Assumes nothing.
-use Rattle.std.specs.Prelude.{ℕ, zero, suc, ◌*◌, ◌/◌, ◌%◌, Bool, not, ◌&&◌, ◌||◌, List, [], ◌∷◌, ◌++◌, eqb, leb, length, drop, if◌then◌else◌}
+use Rattle.std.specs.Prelude.{ℕ, zero, suc, ◌*◌, ◌/◌, ◌%◌, Bool, not, ◌&&◌, ◌||◌, List, [], ◌∷◌, ◌++◌, eqb, leb, length, drop, if◌then◌else◌, Option, Some, None}
 use Rattle.part.specs.Descriptions.{is_valid}
 use Rattle.rules.specs.Answers.{number_of, value_of}
 use Rattle.event.specs.Events.{decode}
@@ -8,13 +8,12 @@ use Rattle.device.specs.OneEvent.{event_on, is_sized_for}
 use Rattle.part.specs.declared.Description.{Description}
 use Rattle.rules.specs.declared.Answer.{Answer}
 use Rattle.rules.specs.declared.Answer.TheVariants.{Done, MalformedEvent, BadDescription, WrongFlashLength, BadList}
-use Rattle.event.specs.declared.Decoded.{Decoded}
-use Rattle.event.specs.declared.Decoded.TheVariants.{WellFormed, Malformed}
+use Rattle.event.specs.declared.Event.{Event}
 
 -- "Malformed events are answered and passed over."
-unfoldable pub decoded_on : Description → Device → Decoded → Left
-decoded_on d device Malformed = leaves MalformedEvent device
-decoded_on d device (WellFormed event) = event_on d device event
+unfoldable pub decoded_on : Description → Device → Option Event → Left
+decoded_on d device None = leaves MalformedEvent device
+decoded_on d device (Some event) = event_on d device event
 
 -- "A run ends .. after the first answer 3 or 4."
 abbrev pub ends_run : ℕ → Bool

@@ -1,5 +1,5 @@
 -- Document 01, "Lists, printed table, page view": the page that holds an address. Assumes nothing.
-use Rattle.std.specs.Prelude.{ℕ, ◌&&◌, List, [], length, if◌then◌else◌}
+use Rattle.std.specs.Prelude.{ℕ, ◌&&◌, List, [], length, if◌then◌else◌, Option, Some, None}
 use Rattle.measure.specs.declared.ProgramAddress.{ProgramAddress}
 use Rattle.flash.specs.Operations.{page_of}
 use Rattle.measure.specs.Measures.{even}
@@ -8,12 +8,11 @@ use Rattle.part.specs.Places.{place_at}
 use Rattle.carrying.specs.CarryingOut.{array_of}
 use Rattle.part.specs.declared.Description.{Description}
 use Rattle.part.specs.declared.Place.{Place}
-use Rattle.part.specs.declared.Place.TheVariants.{Unimplemented, InArray}
 
 -- "the page holding an address, as a part of whichever flash array has it"
-unfoldable pub page_in : ℕ → List ℕ → List ℕ → Place → List ℕ
-page_in page general auxiliary Unimplemented = []
-page_in page general auxiliary (InArray array n) = page_of (array_of array general auxiliary) page n
+unfoldable pub page_in : ℕ → List ℕ → List ℕ → Option Place → List ℕ
+page_in page general auxiliary None = []
+page_in page general auxiliary (Some place) = page_of (array_of place.array general auxiliary) page place.index
 
 -- "Refusals 7 and 8, and unimplemented or odd addresses, all give, without a number, the empty part at the
 -- front of the GS array." That it is GS's is not a number, and is not said here.

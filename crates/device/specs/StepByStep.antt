@@ -1,5 +1,5 @@
 -- A run does with each well-formed event just what one event by itself does: what decodes is well-formed. Assumes nothing.
-use Rattle.std.specs.Prelude.{ℕ, ◌≡◌, refl, Bool, true, false, ◌&&◌, eqb}
+use Rattle.std.specs.Prelude.{ℕ, ◌≡◌, refl, Bool, true, false, ◌&&◌, eqb, Option, Some, None}
 use Rattle.measure.specs.Measures.{address}
 use Rattle.measure.specs.Tests.{by_test, and_left}
 use Rattle.part.specs.Descriptions.{is_valid}
@@ -23,13 +23,11 @@ use Rattle.event.specs.declared.Event.TheVariants.{
   ProgramFas,
   PowerOn,
 }
-use Rattle.event.specs.declared.Decoded.{Decoded}
-use Rattle.event.specs.declared.Decoded.TheVariants.{WellFormed, Malformed}
 
 -- where it says an event, that event is well-formed
-abbrev pub Sound : Decoded → Type 0
-Sound (WellFormed event) = is_well_formed event ≡ true
-Sound Malformed = Unit {0}
+abbrev pub Sound : Option Event → Type 0
+Sound (Some event) = is_well_formed event ≡ true
+Sound None = Unit {0}
 
 given_sound : (good : Bool) (event : Event) → (good ≡ true → is_well_formed event ≡ true) → Sound (given good event)
 given_sound true event h = h refl
@@ -53,7 +51,7 @@ decode_sound kind a b =
 
 -- on a good device, an event that three numbers say is one step
 pub run_by_steps : (d : Description) (device : Device) (kind a b : ℕ) (event : Event)
-    → is_valid d ≡ true → is_sized_for d device ≡ true → decode kind a b ≡ WellFormed event
+    → is_valid d ≡ true → is_sized_for d device ≡ true → decode kind a b ≡ Some event
     → decoded_on d device (decode kind a b) ≡ step d device event
 unfolding decoded_on step
 run_by_steps d device kind a b event v z e =

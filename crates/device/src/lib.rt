@@ -4,17 +4,19 @@
 ghost use Rattle.std.specs.Prelude.{◌≡◌, take};
 ghost use Rattle.part.specs.Places.{vector_words};
 ghost use Rattle.rules.specs.Rules.{decide};
-ghost use Rattle.carrying.specs.CarryingOut.{device_from, leaves};
-ghost use Rattle.device.specs.States.{registers_of, state_from, device_of};
+ghost use Rattle.carrying.specs.Lent.{as_device, Leaves};
+ghost use Rattle.device.specs.States.{device_of};
 ghost use Rattle.device.specs.OneEvent.{event_on};
 ghost use Rattle.device.specs.Promises.{
   NewPromise,
+  RegistersFromPromise,
+  StateFromPromise,
   StepPromise,
   RunPromise,
   PageViewPromise,
 };
 
-use carrying::Carried;
+use carrying::LentDevice;
 use event::Event;
 use flash::ROW_WORDS;
 use measure::ProgramAddress;
@@ -24,7 +26,7 @@ use rules::{Answer, Decision, Registers};
 mod lists;
 mod views;
 
-// What a device remembers besides its flash.
+// What a device remembers besides its flash; its fields by themselves and no `Registers`, as callers set them.
 #[derive(Clone, Copy)]
 pub struct State {
     pub pc: ProgramAddress,
@@ -76,29 +78,31 @@ impl State {
         ensures { StepPromise description (device_of self general.old auxiliary.old) event
             result.answer (device_of result.state general.new auxiliary.new) }
     {
+        let refused = |answer| Stepped {
+            answer,
+            state: self,
+        };
         if !part::is_valid(description) {
-            return refused(Answer::BadDescription, self);
+            return refused(Answer::BadDescription);
         }
         if !part::is_sized(description, general.len(), auxiliary.len()) {
-            return refused(Answer::WrongFlashLength, self);
+            return refused(Answer::WrongFlashLength);
         }
         if !event::is_well_formed(event) {
-            return refused(Answer::MalformedEvent, self);
+            return refused(Answer::MalformedEvent);
         }
-        let mut latches = self.latches;
-        let carried = event_on(
-            description,
-            registers_of(self),
-            &mut latches,
+        let latches = self.latches;
+        // Made here and in `run`: of a function that makes it, the arrays' last values are not told.
+        let mut device = LentDevice {
+            registers: Registers::from(self),
+            latches,
             general,
             auxiliary,
-            event,
-        );
-        let answer = carried.answer;
-        let registers = carried.registers;
+        };
+        let answer = event_on(&mut device, description, event);
         Stepped {
             answer,
-            state: state_from(registers, latches),
+            state: State::from(&device),
         }
     }
 
@@ -116,96 +120,81 @@ impl State {
         ensures { RunPromise description (device_of self general.old auxiliary.old) list.now slots.old limit
             result.answer result.count (device_of result.state general.new auxiliary.new) slots.new }
     {
+        let refused = |answer| Ran {
+            answer,
+            count: 0,
+            state: self,
+        };
         if !part::is_valid(description) {
-            return not_run(Answer::BadDescription, self);
+            return refused(Answer::BadDescription);
         }
         if !part::is_sized(description, general.len(), auxiliary.len()) {
-            return not_run(Answer::WrongFlashLength, self);
+            return refused(Answer::WrongFlashLength);
         }
         if !lists::is_good_list(list.len(), slots.len()) {
-            return not_run(Answer::BadList, self);
+            return refused(Answer::BadList);
         }
-        lists::run_events(self, description, general, auxiliary, list, slots, limit)
+        let latches = self.latches;
+        let mut device = LentDevice {
+            registers: Registers::from(self),
+            latches,
+            general,
+            auxiliary,
+        };
+        let count = lists::run_events(&mut device, description, list, slots, limit);
+        Ran {
+            answer: Answer::Done(0),
+            count,
+            state: State::from(&device),
+        }
     }
 }
 
-fn registers_of(state: State) -> Registers
-    ensures { result ≡ registers_of state }
-{
-    let pc = state.pc;
-    Registers {
-        pc,
-        iopuwr: state.iopuwr,
-        stopped: state.stopped,
-        fgs: state.fgs,
-        fas: state.fas,
+impl From<State> for Registers {
+    ghost from_gives = { RegistersFromPromise };
+
+    fn from(state: State) -> Self {
+        Registers {
+            pc: state.pc,
+            iopuwr: state.iopuwr,
+            stopped: state.stopped,
+            fgs: state.fgs,
+            fas: state.fas,
+        }
     }
 }
 
-fn state_from(registers: Registers, latches: [u32; ROW_WORDS]) -> State
-    ensures { result ≡ state_from registers latches }
-{
-    let pc = registers.pc;
-    State {
-        pc,
-        iopuwr: registers.iopuwr,
-        stopped: registers.stopped,
-        fgs: registers.fgs,
-        fas: registers.fas,
-        latches,
+impl From<&LentDevice<'_>> for State {
+    ghost from_gives = { λ device state. StateFromPromise (as_device device.now) state };
+
+    fn from(device: &LentDevice) -> Self {
+        let registers = device.registers;
+        State {
+            pc: registers.pc,
+            iopuwr: registers.iopuwr,
+            stopped: registers.stopped,
+            fgs: registers.fgs,
+            fas: registers.fas,
+            latches: device.latches,
+        }
     }
 }
 
 // What an event comes to: of the flash, only the words of the vector space are looked at.
-fn decided(
-    description: Description,
-    registers: Registers,
-    general: &[u32],
-    event: Event,
-) -> Decision
-    ensures { result ≡ decide description registers (take vector_words general.now) event }
+fn decided(device: &LentDevice, description: Description, event: Event) -> Decision
+    ensures { result ≡ decide description device.now.registers (take vector_words device.now.general.now) event }
 {
-    rules::decide(description, registers, views::vectors_in(general), event)
+    let vectors = views::vectors_in(device.general);
+    rules::decide(description, device.registers, vectors, event)
 }
 
 // A well-formed event on a good device: decided, then carried out.
 #[tactic(auto, unfolding(crate::specs::OneEvent::event_on))]
-fn event_on(
-    description: Description,
-    registers: Registers,
-    latches: &mut [u32; ROW_WORDS],
-    general: &mut [u32],
-    auxiliary: &mut [u32],
-    event: Event,
-) -> Carried
-    ensures { leaves result.answer (device_from result.registers latches.new general.new auxiliary.new)
-        ≡ event_on description (device_from registers latches.old general.old auxiliary.old) event }
+fn event_on(device: &mut LentDevice, description: Description, event: Event) -> Answer
+    ensures { Leaves result device.old device.new (event_on description (as_device device.old) event) }
 {
-    let decision = decided(description, registers, general, event);
-    carrying::carry_out(
-        description.page_words as usize,
-        registers,
-        latches,
-        decision,
-        general,
-        auxiliary,
-    )
-}
-
-fn refused(answer: Answer, state: State) -> Stepped
-    ensures { result ≡ record { answer = answer; state = state } }
-{
-    Stepped { answer, state }
-}
-
-fn not_run(answer: Answer, state: State) -> Ran
-    ensures { result ≡ record { answer = answer; count = 0; state = state } }
-{
-    Ran {
-        answer,
-        count: 0,
-        state,
-    }
+    let decision = decided(device, description, event);
+    device.carry_out(description.page_words as usize, decision)
 }
 
 // The lecturer's view of the page that holds an address: a part of whichever array has it, or the empty part of the first.
@@ -218,13 +207,10 @@ pub fn page_view<'a>(
 ) -> &'a [u32]
     ensures { PageViewPromise description general.now auxiliary.now address result.now }
 {
-    if !part::is_valid(description) {
-        return &general[..0];
-    }
-    if !part::is_sized(description, general.len(), auxiliary.len()) {
-        return &general[..0];
-    }
-    if address.0 % 2 != 0 {
+    let good = part::is_valid(description)
+        & part::is_sized(description, general.len(), auxiliary.len());
+    let even = address.0 % 2 == 0;
+    if !(good & even) {
         return &general[..0];
     }
     views::page_in(

@@ -8,14 +8,11 @@ use part::{FlashArray, Place};
 const VECTORS: usize = part::VECTOR_WORDS as usize;
 
 // The words of the vector space, or what there is of them.
+#[tactic(auto, using(std::proofs::lemmas::List::take_min))]
 pub(crate) fn vectors_in(general: &[u32]) -> &[u32]
     ensures { result.now ≡ take vector_words general.now }
 {
-    if general.len() < VECTORS {
-        general
-    } else {
-        &general[..VECTORS]
-    }
+    &general[..VECTORS.min(general.len())]
 }
 
 #[tactic(auto, unfolding(crate::specs::PageView::page_in))]
@@ -23,15 +20,16 @@ pub(crate) fn page_in<'a>(
     page: usize,
     general: &'a [u32],
     auxiliary: &'a [u32],
-    place: Place,
+    place: Option<Place>,
 ) -> &'a [u32]
     ensures { result.now ≡ page_in page general.now auxiliary.now place }
 {
-    match place {
-        Place::Unimplemented => &general[..0],
-        Place::InArray(array, index) => match array {
-            FlashArray::GeneralArray => flash::page(general, page, index as usize),
-            FlashArray::AuxiliaryArray => flash::page(auxiliary, page, index as usize),
-        },
-    }
+    let Some(place) = place else {
+        return &general[..0];
+    };
+    let flash = match place.array {
+        FlashArray::GeneralArray => general,
+        FlashArray::AuxiliaryArray => auxiliary,
+    };
+    flash::page(flash, page, place.index as usize)
 }

@@ -1,5 +1,5 @@
 -- Document 01, "Events": which events are well-formed, and the three numbers of an event in a list. Assumes nothing.
-use Rattle.std.specs.Prelude.{ℕ, ◌^◌, Bool, true, ◌&&◌, eqb, ltb, leb, if◌then◌else◌}
+use Rattle.std.specs.Prelude.{ℕ, ◌^◌, Bool, true, ◌&&◌, eqb, ltb, leb, if◌then◌else◌, Option, Some, None}
 use Rattle.measure.specs.Measures.{address}
 use Rattle.measure.specs.Measures.{even}
 use Rattle.event.specs.declared.Event.{Event}
@@ -17,8 +17,6 @@ use Rattle.event.specs.declared.Event.TheVariants.{
   ProgramFas,
   PowerOn,
 }
-use Rattle.event.specs.declared.Decoded.{Decoded}
-use Rattle.event.specs.declared.Decoded.TheVariants.{WellFormed, Malformed}
 
 -- "Addresses and targets are even, 0 to 0xFFFFFE."
 abbrev pub good_address : ℕ → Bool
@@ -50,11 +48,11 @@ is_well_formed (ProgramFgs byte) = true
 is_well_formed (ProgramFas byte) = true
 is_well_formed PowerOn = true
 
--- "In a list it is three numbers: kind, A, B; unused ones must be 0."
-abbrev pub given : Bool → Event → Decoded
-given good event = if good then WellFormed event else Malformed
+-- "In a list it is three numbers: kind, A, B; unused ones must be 0." Numbers that say no event are malformed.
+abbrev pub given : Bool → Event → Option Event
+given good event = if good then Some event else None
 
-unfoldable pub decode : ℕ → ℕ → ℕ → Decoded
+unfoldable pub decode : ℕ → ℕ → ℕ → Option Event
 decode kind a b =
     if eqb kind 1 then given (eqb a 0 && eqb b 0) Next
     else if eqb kind 2 then given (good_address a && eqb b 0) (FlowChange (address a))
@@ -68,4 +66,4 @@ decode kind a b =
     else if eqb kind 10 then given (good_byte a && eqb b 0) (ProgramFgs a)
     else if eqb kind 11 then given (good_byte a && eqb b 0) (ProgramFas a)
     else if eqb kind 12 then given (eqb a 0 && eqb b 0) PowerOn
-    else Malformed
+    else None

@@ -26,13 +26,6 @@ pub enum Event {
     PowerOn,
 }
 
-// What three numbers of a list say.
-#[derive(Clone, Copy)]
-pub enum Decoded {
-    WellFormed(Event),
-    Malformed,
-}
-
 fn good_address(address: u32) -> bool
     ensures { result ≡ good_address address }
 {
@@ -44,33 +37,30 @@ pub fn is_well_formed(event: Event) -> bool
     ensures { IsWellFormedPromise event result }
 {
     match event {
-        Event::Next => true,
-        Event::FlowChange(target) => good_address(target.0),
-        Event::Interrupt(vector) => vector <= 253,
-        Event::TableRead(address) => good_address(address.0),
+        Event::FlowChange(address)
+        | Event::TableRead(address)
+        | Event::ProgramRow(address)
+        | Event::ErasePage(address) => good_address(address.0),
         Event::TableWrite(address, word) => good_address(address.0) & (word < 0x1000000),
-        Event::ProgramRow(address) => good_address(address.0),
-        Event::ErasePage(address) => good_address(address.0),
-        Event::EraseGeneral => true,
-        Event::EraseAuxiliary => true,
-        Event::ProgramFgs(_) => true,
-        Event::ProgramFas(_) => true,
-        Event::PowerOn => true,
+        Event::Interrupt(vector) => vector <= 253,
+        Event::Next
+        | Event::EraseGeneral
+        | Event::EraseAuxiliary
+        | Event::ProgramFgs(_)
+        | Event::ProgramFas(_)
+        | Event::PowerOn => true,
     }
 }
 
-fn given(good: bool, event: Event) -> Decoded
+fn given(good: bool, event: Event) -> Option<Event>
     ensures { result ≡ given_of good event }
 {
-    if good {
-        Decoded::WellFormed(event)
-    } else {
-        Decoded::Malformed
-    }
+    good.then_some(event)
 }
 
+// What three numbers of a list say, where they say an event: numbers, since C lends lists of them.
 #[tactic(auto, using(crate::proofs::Laws::given_byte), unfolding(crate::specs::Events::decode))]
-pub fn decode(kind: u32, a: u32, b: u32) -> Decoded
+pub fn decode(kind: u32, a: u32, b: u32) -> Option<Event>
     ensures { DecodePromise kind a b result }
 {
     match kind {
@@ -101,6 +91,6 @@ pub fn decode(kind: u32, a: u32, b: u32) -> Decoded
         10 => given((a < 256) & (b == 0), Event::ProgramFgs((a % 256) as u8)),
         11 => given((a < 256) & (b == 0), Event::ProgramFas((a % 256) as u8)),
         12 => given((a == 0) & (b == 0), Event::PowerOn),
-        _ => Decoded::Malformed,
+        _ => None,
     }
 }

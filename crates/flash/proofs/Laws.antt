@@ -1,39 +1,43 @@
 -- The laws of `specs/`: what fits, and what a row and a range hold while they are written. Assumes nothing.
-use Prim.Native.Nat.{ℕ, zero, suc, ◌+◌, ◌-◌, ◌<◌, ◌≤◌}
+use Prim.Native.Nat.{ℕ, zero, suc, ◌+◌, ◌-◌, ◌*◌, ◌<◌, ◌≤◌}
 use mathlib.Core.Path.{◌≡◌, refl, sym, ap, ap₂, ◌∙◌}
-use mathlib.Core.Bool.{Bool, true, false}
+use mathlib.Core.Bool.{true, false}
 use mathlib.Core.List.{List, [], ◌∷◌, ◌++◌, zip_with, append-nil, append_assoc}
 use native.Mathlib.Nat.{not-suc-le-zero, le_of_suc-le-suc, le_of_eq, add_assoc, zero-add, add-zero}
 use native.Mathlib.Numerals.{add-one}
 use native.Mathlib.Omega.{arith}
-use borrow.Author.Tests.{leb-true, leb-false, le-leb, lt-leb}
+use borrow.Author.Tests.{leb-true}
 use borrow.Rule.Slice.PartMut.{put_mid}
-use lib.Dec.{leb}
+use lib.Dec.{eqb}
 use lib.ListN.{length, take, drop, get_or, set, replicate, length-take, length-drop, length-replicate, replicate-append-replicate, drop_of_length-le}
-use lib.Seq.{take_all, take_at, drop_at, drop-drop, drop-length}
+use lib.Seq.{take_all, take_at, drop_at, drop-drop}
 use Rattle.measure.specs.Words.{programmed_word, bits_not_set}
-use Rattle.flash.specs.Parts.{blank, fits, part, with_part}
-use Rattle.flash.specs.Operations.{Outcome, outcome, erase_range, programmed_words, total, row_not_set}
-use Rattle.flash.specs.Internals.{ProgramWordsPromise}
-use Rattle.flash.specs.declared.RangeErased.{RangeErased}
-use Rattle.flash.specs.declared.RangeErased.TheVariants.{Blank}
-use Rattle.flash.specs.declared.RowProgrammed.TheVariants.{BitsNotSet}
+use Rattle.flash.specs.Parts.{blank, fits, start_of, part, with_part}
+use Rattle.flash.specs.Operations.{outcome, program_row_at, erase_range, programmed_words, total, row_not_set, page_of}
+use Rattle.flash.specs.Internals.{end_of, ProgramWordsPromise}
+use Rattle.flash.specs.declared.OutsideArray.{OutsideArray}
+use Rattle.std.specs.Prelude.{Result, Ok, Err}
+use Rattle.measure.specs.Tests.{by_test}
 
 -- ---- what fits
 
-same_test : (a b : Bool) → (a ≡ true → b ≡ true) → (a ≡ false → b ≡ false) → a ≡ b
-same_test true b t f = sym (t refl)
-same_test false b t f = sym (f refl)
+module _ (length first count : ℕ) where
+  -- the end of what fits an array of this length
+  pub ends_at : {end : ℕ} → Ok end ≡ end_of length first count → (fits length first count ≡ true) × (end ≡ first + count)
+  unfolding end_of
+  ends_at {end} =
+      by_test (λ (e : Result ℕ OutsideArray). Ok end ≡ e → (fits length first count ≡ true) × (end ≡ first + count)) (fits length first count)
+      (λ t e. (t, cc)) (λ _ e. absurd (let z : ◌≡◌ {A = ℕ} 0 1 = cc in omega arith))
 
--- the machine subtracts, so that no sum wraps
-pub fits_is : (length first count : ℕ) → count ≤ length → leb first (length - count) ≡ fits length first count
-fits_is length first count h =
-    same_test _ _
-    (λ t. let l : first ≤ length - count = leb-true _ _ t in le-leb (first + count) length (omega arith))
-    (λ f. let l : length - count < first = leb-false _ _ f in lt-leb (first + count) length (omega arith))
+  pub no_end : {e : OutsideArray} → Err e ≡ end_of length first count → fits length first count ≡ false
+  unfolding end_of
+  no_end {e} =
+      by_test (λ (r : Result ℕ OutsideArray). Err e ≡ r → fits length first count ≡ false) (fits length first count)
+      (λ _ e. absurd (let z : ◌≡◌ {A = ℕ} 0 1 = cc in omega arith)) (λ f _. f)
 
-pub fitted : (length first count : ℕ) {answer : Bool} → answer ≡ fits length first count → answer ≡ true → first + count ≤ length
-fitted length first count e t = leb-true (first + count) length (sym e ∙ t)
+  -- its words lie in the array
+  pub end_in : {end : ℕ} → Ok end ≡ end_of length first count → (first + count ≤ length) × (end ≡ first + count)
+  end_in e = let at = ends_at e in (leb-true (first + count) length at.0, at.1)
 
 -- ---- a part that was written, put back
 
@@ -118,50 +122,60 @@ module _ (old latches : List ℕ) (a : length old ≡ 64) (b : length latches �
   unfolding programmed_words
   length_programmed = length_zip programmed_word old latches (a ∙ sym b) ∙ a
 
--- ---- what the part's words became, in the whole array
+-- ---- what an operation leaves of the whole array
 
-module _ (flash : List ℕ) (first count : ℕ) (h : first + count ≤ length flash) where
-  pub erased_part : {last : List ℕ} → last ≡ replicate (length (part flash first (first + count - first))) blank
-      → put_mid first (first + count - first) flash last ≡ with_part flash first (replicate count blank)
-  erased_part e =
-      put_back flash first count h (λ ws. replicate (length ws) blank) (length-replicate _ blank ∙ part_length flash first count h) e
-      ∙ rw (part_length flash first count h)
+module _ (flash : List ℕ) (first count : ℕ) where
+  pub not_erased : {result : Result Unit OutsideArray} {e : OutsideArray} → Err e ≡ end_of (length flash) first count → result ≡ Err e
+      → outcome result flash ≡ erase_range flash first count
+  unfolding erase_range
+  not_erased p q = rw (q, no_end (length flash) first count p) refl
 
-module _ (flash latches : List ℕ) (first : ℕ) (h : first + 64 ≤ length flash) (b : length latches ≡ 64) where
-  pub programmed_part : {result : ℕ} {last : List ℕ} → ProgramWordsPromise (part flash first (first + 64 - first)) latches result last
-      → outcome (BitsNotSet result) (put_mid first (first + 64 - first) flash last)
-      ≡ outcome (BitsNotSet (row_not_set (part flash first 64) latches)) (with_part flash first (programmed_words (part flash first 64) latches))
-  programmed_part p =
-      ap₂ (λ (n : ℕ) (ws : List ℕ). outcome (BitsNotSet n) ws)
-      (p.not_set ∙ rw (lent_count flash first 64 h))
-      (put_back flash first 64 h (λ ws. programmed_words ws latches) (length_programmed _ latches (part_length flash first 64 h) b) p.words)
+  pub erased : {end : ℕ} {last : List ℕ} → Ok end ≡ end_of (length flash) first count
+      → last ≡ replicate (length (part flash first (end - first))) blank
+      → outcome (Ok tt) (put_mid first (end - first) flash last) ≡ erase_range flash first count
+  unfolding erase_range
+  erased {end} {last} p e =
+      let at = ends_at (length flash) first count p in
+      let inside = leb-true (first + count) (length flash) at.0 in
+      rw (at.0, at.1)
+      (ap (outcome (Ok tt))
+      (put_back flash first count inside (λ ws. replicate (length ws) blank) (length-replicate _ blank ∙ part_length flash first count inside) (rw at.1 at e)
+      ∙ rw (part_length flash first count inside)))
 
--- ---- a whole array that was erased
+module _ (flash latches : List ℕ) (first : ℕ) where
+  pub not_programmed : {result : Result ℕ OutsideArray} {e : OutsideArray} → Err e ≡ end_of (length flash) first 64 → result ≡ Err e
+      → outcome result flash ≡ program_row_at flash first latches
+  unfolding program_row_at
+  not_programmed p q = rw (q, no_end (length flash) first 64 p) refl
 
-whole_range : (flash : List ℕ) → erase_range flash 0 (length flash) ≡ outcome Blank (replicate (length flash) blank)
-unfolding erase_range with_part
-whole_range flash =
-    let fit : 0 + length flash ≤ length flash = omega arith in
-    rw (le-leb (0 + length flash) (length flash) fit, length-replicate, zero-add (length flash), drop-length, append-nil)
+  pub programmed : {end result : ℕ} {last : List ℕ} → length latches ≡ 64 → Ok end ≡ end_of (length flash) first 64
+      → ProgramWordsPromise (part flash first (end - first)) latches result last
+      → outcome (Ok result) (put_mid first (end - first) flash last) ≡ program_row_at flash first latches
+  unfolding program_row_at
+  programmed {end} {result} {last} b p words =
+      let at = ends_at (length flash) first 64 p in
+      let inside = leb-true (first + 64) (length flash) at.0 in
+      let done : ProgramWordsPromise (part flash first (first + 64 - first)) latches result last = rw at.1 at words in
+      rw (at.0, at.1)
+      (ap₂ (λ (n : ℕ) (ws : List ℕ). outcome {Answer = Result ℕ OutsideArray} (Ok n) ws)
+      (done.not_set ∙ rw (lent_count flash first 64 inside))
+      (put_back flash first 64 inside (λ ws. programmed_words ws latches) (length_programmed _ latches (part_length flash first 64 inside) b) done.words))
 
-pub whole_erased : (flash : List ℕ) {answer : RangeErased} {exit : List ℕ} → outcome answer exit ≡ erase_range flash 0 (length flash)
-    → exit ≡ replicate (length flash) blank
-whole_erased flash e = ap (λ (o : Outcome RangeErased). o.flash) (e ∙ whole_range flash)
+pub no_page : (flash : List ℕ) (size index : ℕ) → fits (length flash) (start_of size index) size ≡ false → page_of flash size index ≡ []
+unfolding page_of
+no_page flash size index e = by_test (λ (page : List ℕ). page ≡ []) (eqb size 0) (λ _. refl) (λ _. rw e refl)
 
 -- ---- a part filled from its front
 
--- so many blank words, and then the words as lent
+-- so many blank rows, and then the words as lent
 abbrev pub filled : ℕ → List ℕ → List ℕ
-filled at words = replicate at blank ++ drop at words
+filled rows words = replicate (rows * 64) blank ++ drop (rows * 64) words
 
 -- a row more
-pub filled_row : (at count : ℕ) (words : List ℕ) {last : List ℕ} → last ≡ replicate count blank
-    → put_mid at (at + count - at) (filled at words) last ≡ filled (at + count) words
-filled_row at count words e =
-    let k : at + count - at ≡ count = omega arith in
-    rw (e, k, take_at (replicate at blank) (drop at words) at (length-replicate at blank), drop_at (replicate at blank) (drop at words) at (length-replicate at blank), drop-drop)
-    (sym (append_assoc (replicate at blank) (replicate count blank) (drop (at + count) words)) ∙ rw (replicate-append-replicate at count blank))
-
--- all words
-pub filled_all : (at count : ℕ) (words : List ℕ) → at ≡ count → length words ≡ count → filled at words ≡ replicate count blank
-filled_all at count words e h = rw (e, drop_of_length-le words {i = count} (omega (arith, h)), append-nil)
+pub filled_row : (rows : ℕ) (words : List ℕ) {last : List ℕ} → last ≡ replicate 64 blank
+    → put_mid (rows * 64) (rows * 64 + 64 - rows * 64) (filled rows words) last ≡ filled (rows + 1) words
+filled_row rows words e =
+    let k : rows * 64 + 64 - rows * 64 ≡ 64 = omega arith in
+    let m : (rows + 1) * 64 ≡ rows * 64 + 64 = omega arith in
+    rw (e, k, m, take_at (replicate (rows * 64) blank) (drop (rows * 64) words) (rows * 64) (length-replicate (rows * 64) blank), drop_at (replicate (rows * 64) blank) (drop (rows * 64) words) (rows * 64) (length-replicate (rows * 64) blank), drop-drop)
+    (sym (append_assoc (replicate (rows * 64) blank) (replicate 64 blank) (drop (rows * 64 + 64) words)) ∙ rw (replicate-append-replicate (rows * 64) 64 blank))

@@ -6,6 +6,8 @@ use Rattle.flash.proofs.read_word.Kinds as read_word_kinds
 use Rattle.flash.proofs.read_word.Reads as read_word_reads
 use Rattle.flash.proofs.program_row.Kinds as program_row_kinds
 use Rattle.flash.proofs.program_row.Reads as program_row_reads
+use Rattle.flash.proofs.erase_all.Kinds as erase_all_kinds
+use Rattle.flash.proofs.erase_all.Reads as erase_all_reads
 use Rattle.flash.proofs.erase_range.Kinds as erase_range_kinds
 use Rattle.flash.proofs.erase_range.Reads as erase_range_reads
 use Rattle.flash.proofs.erase_page.Kinds as erase_page_kinds
@@ -19,6 +21,9 @@ read_word_unique κs arguments r r' e e' p q = one_outcome p q
 -- the answer, and the whole array at exit
 pub program_row_unique : OneOutcome 2 program_row_kinds.ps program_row_kinds.r program_row_reads.Post (λ κs result exit. outcome result exit.0.now)
 program_row_unique κs arguments r r' e e' p q = one_outcome p q
+
+pub erase_all_unique : OneOutcome 1 erase_all_kinds.ps erase_all_kinds.r erase_all_reads.Post (λ κs result exit. exit.0.now)
+erase_all_unique κs arguments r r' e e' p q = one_outcome p q
 
 pub erase_range_unique : OneOutcome 1 erase_range_kinds.ps erase_range_kinds.r erase_range_reads.Post (λ κs result exit. outcome result exit.0.now)
 erase_range_unique κs arguments r r' e e' p q = one_outcome p q

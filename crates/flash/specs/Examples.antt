@@ -1,13 +1,12 @@
 -- Worked examples, by computation, on an array of the bench device's size. Assumes nothing.
-use Rattle.std.specs.Prelude.{◌≡◌, refl, get_or, length, replicate}
+use Rattle.std.specs.Prelude.{◌≡◌, refl, get_or, length, replicate, Ok}
 use mathlib.Core.List.{zip_with}
 use Rattle.measure.specs.Words.{and_of, not_set_of}
 use Rattle.flash.specs.Parts.{with_part}
 use Rattle.flash.specs.Operations.{outcome, programmed_words, total, row_not_set, program_row_at, program_row, erase_range, erase_page, page_of}
-use Rattle.flash.specs.declared.RowProgrammed.TheVariants.{BitsNotSet}
 
 -- document 01's marked word, 64 times over: 256 bits not set, and the words stay
-pub marked_row : program_row (replicate 5120 0x0000F0) 523 (replicate 64 0x0000FF) ≡ outcome (BitsNotSet 256) (replicate 5120 0x0000F0)
+pub marked_row : program_row (replicate 5120 0x0000F0) 523 (replicate 64 0x0000FF) ≡ outcome (Ok 256) (replicate 5120 0x0000F0)
 unfolding program_row_at programmed_words row_not_set total zip_with with_part and_of not_set_of
 marked_row = refl
 

@@ -7,10 +7,10 @@ use Rattle.fuse.proofs.level_of.Kinds as level_of_kinds
 use Rattle.fuse.proofs.level_of.Reads as level_of_reads
 use Rattle.fuse.proofs.write_protection_of.Kinds as write_protection_of_kinds
 use Rattle.fuse.proofs.write_protection_of.Reads as write_protection_of_reads
-use Rattle.fuse.proofs.is_high.Kinds as is_high_kinds
-use Rattle.fuse.proofs.is_high.Reads as is_high_reads
-use Rattle.fuse.proofs.is_protected.Kinds as is_protected_kinds
-use Rattle.fuse.proofs.is_protected.Reads as is_protected_reads
+use Rattle.fuse.proofs.Level.is_high.Kinds as is_high_kinds
+use Rattle.fuse.proofs.Level.is_high.Reads as is_high_reads
+use Rattle.fuse.proofs.WriteProtection.is_protected.Kinds as is_protected_kinds
+use Rattle.fuse.proofs.WriteProtection.is_protected.Reads as is_protected_reads
 
 pub stored_byte_unique : OneResult 0 stored_byte_kinds.ps stored_byte_kinds.r stored_byte_reads.Post
 stored_byte_unique κs arguments r r' e e' p q = one_outcome p q

@@ -11,17 +11,34 @@ ghost use Rattle.fuse.specs.Promises.{
 ghost use Rattle.fuse.specs.Byte.{mask_of, key_for};
 ghost use Rattle.std.specs.Prelude.{◌≡◌};
 
-#[derive(Clone, Copy)]
+// Whether a segment is closed to other code.
+#[derive(Clone, Copy, PartialEq, Eq)]
 pub enum Level {
     None,
     High,
 }
 
 // Whether a segment's words may be programmed and erased.
-#[derive(Clone, Copy)]
+#[derive(Clone, Copy, PartialEq, Eq)]
 pub enum WriteProtection {
     Writable,
     Protected,
+}
+
+impl Level {
+    pub fn is_high(self) -> bool
+        ensures { IsHighPromise self result }
+    {
+        self == Level::High
+    }
+}
+
+impl WriteProtection {
+    pub fn is_protected(self) -> bool
+        ensures { IsProtectedPromise self result }
+    {
+        self == WriteProtection::Protected
+    }
 }
 
 // The bits of a fuse byte that a part with or without keys has.
@@ -31,6 +48,7 @@ fn mask(keys: bool) -> u8
     if keys { 0x33 } else { 0x03 }
 }
 
+// Keys beside each byte: they are the part's and it is the device's, and one struct of both would be made at each call.
 #[tactic(auto, using(crate::proofs::Laws::stored_is))]
 pub fn stored_byte(keys: bool, byte: u8) -> u8
     ensures { StoredBytePromise keys byte result }
@@ -65,23 +83,5 @@ pub fn write_protection_of(byte: u8) -> WriteProtection
         WriteProtection::Writable
     } else {
         WriteProtection::Protected
-    }
-}
-
-pub fn is_high(level: Level) -> bool
-    ensures { IsHighPromise level result }
-{
-    match level {
-        Level::None => false,
-        Level::High => true,
-    }
-}
-
-pub fn is_protected(protection: WriteProtection) -> bool
-    ensures { IsProtectedPromise protection result }
-{
-    match protection {
-        WriteProtection::Writable => false,
-        WriteProtection::Protected => true,
     }
 }

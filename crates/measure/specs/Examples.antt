@@ -1,8 +1,7 @@
 -- Worked examples, by computation. Assumes nothing.
-use Rattle.std.specs.Prelude.{◌≡◌, refl}
+use Rattle.std.specs.Prelude.{◌≡◌, refl, Some, None}
 use Rattle.measure.specs.Measures.{address, location, location_of, address_of}
 use Rattle.measure.specs.Words.{and_of, not_set_of, programmed_word, bits_not_set}
-use Rattle.measure.specs.declared.AddressFound.TheVariants.{At, NoAddress}
 
 -- document 01, marked point: word 0x0000F0, latch 0x0000FF
 pub marked_word : (programmed_word 0x0000F0 0x0000FF ≡ 0x0000F0) × (bits_not_set 0x0000F0 0x0000FF ≡ 4)
@@ -15,10 +14,10 @@ unfolding and_of not_set_of
 top_bytes = (refl, refl)
 
 -- the vector space ends with address 0x0001FE, location 255
-pub last_vector : (location_of (address 0x0001FE) ≡ location 255) × (address_of (location 255) ≡ At (address 0x0001FE))
+pub last_vector : (location_of (address 0x0001FE) ≡ location 255) × (address_of (location 255) ≡ Some (address 0x0001FE))
 unfolding address_of
 last_vector = (refl, refl)
 
-pub last_address : (address_of (location 0x7FFFFFFF) ≡ At (address 0xFFFFFFFE)) × (address_of (location 0x80000000) ≡ NoAddress)
+pub last_address : (address_of (location 0x7FFFFFFF) ≡ Some (address 0xFFFFFFFE)) × (address_of (location 0x80000000) ≡ None)
 unfolding address_of
 last_address = (refl, refl)

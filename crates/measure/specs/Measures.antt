@@ -1,10 +1,8 @@
 -- Document 01, "The device": a program address counts two for every instruction location.
 -- Assumes nothing.
-use Rattle.std.specs.Prelude.{ℕ, ◌*◌, ◌/◌, ◌%◌, ◌^◌, Bool, eqb, ltb, if◌then◌else◌}
+use Rattle.std.specs.Prelude.{ℕ, ◌*◌, ◌/◌, ◌%◌, ◌^◌, Bool, eqb, ltb, if◌then◌else◌, Option, Some, None}
 use Rattle.measure.specs.declared.ProgramAddress.{ProgramAddress}
 use Rattle.measure.specs.declared.InstructionLocation.{InstructionLocation}
-use Rattle.measure.specs.declared.AddressFound.{AddressFound}
-use Rattle.measure.specs.declared.AddressFound.TheVariants.{At, NoAddress}
 
 -- an address at which a location starts is even
 abbrev pub even : ℕ → Bool
@@ -23,5 +21,5 @@ abbrev pub location_of : ProgramAddress → InstructionLocation
 location_of a = location (a.0 / 2)
 
 -- the address at which a location starts, where 32 bits hold it
-unfoldable pub address_of : InstructionLocation → AddressFound
-address_of l = if ltb (2 * l.0) (2 ^ 32) then At (address (2 * l.0)) else NoAddress
+unfoldable pub address_of : InstructionLocation → Option ProgramAddress
+address_of l = if ltb (2 * l.0) (2 ^ 32) then Some (address (2 * l.0)) else None

@@ -1,15 +1,14 @@
 -- What each public function of this crate promises of its result. Assumes nothing.
-use Rattle.std.specs.Prelude.{◌≡◌, ℕ}
+use Rattle.std.specs.Prelude.{◌≡◌, ℕ, Option}
 use Rattle.measure.specs.Measures.{location_of, address_of}
 use Rattle.measure.specs.Words.{word_of, programmed_word, bits_not_set}
 use Rattle.measure.specs.declared.ProgramAddress.{ProgramAddress}
 use Rattle.measure.specs.declared.InstructionLocation.{InstructionLocation}
-use Rattle.measure.specs.declared.AddressFound.{AddressFound}
 
 abbrev pub LocationPromise : ProgramAddress → InstructionLocation → Type 0
 LocationPromise self result = result ≡ location_of self
 
-abbrev pub AddressPromise : InstructionLocation → AddressFound → Type 0
+abbrev pub AddressPromise : InstructionLocation → Option ProgramAddress → Type 0
 AddressPromise self result = result ≡ address_of self
 
 abbrev pub WordPromise : ℕ → ℕ → Type 0

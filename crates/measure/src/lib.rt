@@ -17,14 +17,6 @@ pub struct ProgramAddress(pub u32);
 #[derive(Clone, Copy)]
 pub struct InstructionLocation(pub u32);
 
-// What asking for the address of an instruction location finds.
-#[derive(Clone, Copy)]
-pub enum AddressFound {
-    At(ProgramAddress),
-    // Twice the location is more than a program address can hold.
-    NoAddress,
-}
-
 impl ProgramAddress {
     // The instruction location that holds this address; an odd address lies in the one that starts just before it.
     pub fn location(self) -> InstructionLocation
@@ -35,16 +27,12 @@ impl ProgramAddress {
 }
 
 impl InstructionLocation {
-    // The program address at which this location starts.
+    // The program address at which this location starts, where twice the location is no more than one can hold.
     #[tactic(auto, unfolding(crate::specs::Measures::address_of))]
-    pub fn address(self) -> AddressFound
+    pub fn address(self) -> Option<ProgramAddress>
         ensures { AddressPromise self result }
     {
-        if self.0 < 0x80000000 {
-            AddressFound::At(ProgramAddress(2 * self.0))
-        } else {
-            AddressFound::NoAddress
-        }
+        self.0.checked_mul(2).map(ProgramAddress)
     }
 }
 
@@ -66,5 +54,5 @@ pub fn programmed_word(old: u32, latch: u32) -> u32
 pub fn bits_not_set(old: u32, latch: u32) -> u32
     ensures { BitsNotSetPromise old latch result }
 {
-    u32::count_ones(word(latch) & !word(old))
+    (word(latch) & !word(old)).count_ones()
 }

@@ -1,6 +1,6 @@
 -- Document 01, "The device" and "Who is running": where an address lies, whose code runs there, and which target it is.
 -- Assumes nothing.
-use Rattle.std.specs.Prelude.{ℕ, ◌+◌, ◌-◌, Bool, true, false, not, ◌||◌, eqb, ltb, leb, if◌then◌else◌}
+use Rattle.std.specs.Prelude.{ℕ, ◌+◌, ◌-◌, Bool, true, false, not, ◌||◌, eqb, ltb, leb, if◌then◌else◌, Option, Some, None}
 use Rattle.measure.specs.Measures.{even, address, location_of}
 use Rattle.measure.specs.declared.ProgramAddress.{ProgramAddress}
 use Rattle.measure.specs.declared.InstructionLocation.{InstructionLocation}
@@ -15,9 +15,6 @@ use Rattle.part.specs.declared.Description.{Description}
 use Rattle.part.specs.declared.FlashArray.{FlashArray}
 use Rattle.part.specs.declared.FlashArray.TheVariants.{GeneralArray, AuxiliaryArray}
 use Rattle.part.specs.declared.Place.{Place}
-use Rattle.part.specs.declared.Place.TheVariants.{Unimplemented, InArray}
-use Rattle.part.specs.declared.Running.{Running}
-use Rattle.part.specs.declared.Running.TheVariants.{NotExecutable, Executing}
 
 -- ---- places
 
@@ -28,25 +25,32 @@ auxiliary_end = (location_of (address 0x7FFFFE)).0 + 1
 abbrev pub auxiliary_first : Description → ℕ
 auxiliary_first d = auxiliary_end - auxiliary_words d
 
--- "GS starts at 0x000000"; "Addresses in neither are unimplemented." Whatever a description says, nothing lies past the end of AS.
-unfoldable pub place_of : Description → InstructionLocation → Place
-place_of d l =
-    if not (ltb l.0 auxiliary_end) then Unimplemented
-    else if ltb l.0 (general_words d) then InArray GeneralArray l.0
-    else if leb (auxiliary_first d) l.0 then InArray AuxiliaryArray (l.0 - auxiliary_first d)
-    else Unimplemented
+-- the word of an index in one of the arrays
+abbrev pub in_array : FlashArray → ℕ → Place
+in_array array n = record { array = array; index = n }
 
-abbrev pub place_at : Description → ProgramAddress → Place
+-- "GS starts at 0x000000"; "Addresses in neither are unimplemented." Whatever a description says, nothing lies past the end of AS.
+unfoldable pub place_of : Description → InstructionLocation → Option Place
+place_of d l =
+    if not (ltb l.0 auxiliary_end) then None
+    else if ltb l.0 (general_words d) then Some (in_array GeneralArray l.0)
+    else if leb (auxiliary_first d) l.0 then Some (in_array AuxiliaryArray (l.0 - auxiliary_first d))
+    else None
+
+abbrev pub place_at : Description → ProgramAddress → Option Place
 place_at d a = place_of d (location_of a)
 
-abbrev pub is_implemented : Place → Bool
-is_implemented Unimplemented = false
-is_implemented (InArray array n) = true
+abbrev pub is_implemented : Option Place → Bool
+is_implemented None = false
+is_implemented (Some place) = true
 
-abbrev pub is_auxiliary : Place → Bool
-is_auxiliary Unimplemented = false
-is_auxiliary (InArray GeneralArray n) = false
-is_auxiliary (InArray AuxiliaryArray n) = true
+abbrev pub is_auxiliary_array : FlashArray → Bool
+is_auxiliary_array GeneralArray = false
+is_auxiliary_array AuxiliaryArray = true
+
+abbrev pub is_auxiliary : Option Place → Bool
+is_auxiliary None = false
+is_auxiliary (Some place) = is_auxiliary_array place.array
 
 -- "Vector space (VS): 0x000000 to 0x0001FE"
 abbrev pub vector_words : ℕ
@@ -55,15 +59,18 @@ vector_words = 256
 -- ---- who is running
 
 -- "Even PC in AS: origin AS. Even PC in GS, or exactly 0x000000: origin GS", "elsewhere in VS: not executable"
-abbrev pub running_in : ProgramAddress → Place → Running
-running_in pc Unimplemented = NotExecutable
-running_in pc (InArray GeneralArray n) =
-    if eqb pc.0 0 || leb vector_words n then Executing FromGeneral else NotExecutable
-running_in pc (InArray AuxiliaryArray n) = Executing FromAuxiliary
+abbrev pub code_in : ProgramAddress → FlashArray → ℕ → Option Origin
+code_in pc GeneralArray n = if eqb pc.0 0 || leb vector_words n then Some FromGeneral else None
+code_in pc AuxiliaryArray n = Some FromAuxiliary
+
+-- "elsewhere": not executable, so no origin
+abbrev pub running_in : ProgramAddress → Option Place → Option Origin
+running_in pc None = None
+running_in pc (Some place) = code_in pc place.array place.index
 
 -- "PC odd: not executable"
-unfoldable pub running_at : Description → ProgramAddress → Running
-running_at d pc = if even pc.0 then running_in pc (place_at d pc) else NotExecutable
+unfoldable pub running_at : Description → ProgramAddress → Option Origin
+running_at d pc = if even pc.0 then running_in pc (place_at d pc) else None
 
 abbrev pub from_general : Origin → Bool
 from_general FromGeneral = true
@@ -72,9 +79,12 @@ from_general FromAuxiliary = false
 -- ---- targets
 
 -- the segment of a word, where the first words of the GS array count as VS
-abbrev pub segment_of : ℕ → FlashArray → ℕ → Segment
-segment_of vectors GeneralArray n = if ltb n vectors then Vectors else General
-segment_of vectors AuxiliaryArray n = Auxiliary
+abbrev pub segment_in : ℕ → FlashArray → ℕ → Segment
+segment_in vectors GeneralArray n = if ltb n vectors then Vectors else General
+segment_in vectors AuxiliaryArray n = Auxiliary
+
+abbrev pub segment_of : ℕ → Place → Segment
+segment_of vectors place = segment_in vectors place.array place.index
 
 -- "VS takes its level and write protection from FGS. FAS is ignored on a part with no AS": no place lies in AS there, and
 -- rule 11 refuses

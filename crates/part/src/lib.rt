@@ -3,7 +3,7 @@
 
 ghost use Rattle.std.specs.Prelude.{◌≡◌, ◌*◌};
 ghost use Rattle.part.specs.Descriptions.{good_vector};
-ghost use Rattle.part.specs.Places.{auxiliary_end, auxiliary_first, place_of, running_in, byte_of};
+ghost use Rattle.part.specs.Places.{auxiliary_end, auxiliary_first, place_of, code_in, byte_of};
 ghost use Rattle.part.specs.Promises.{
   BenchPromise,
   HasAuxiliaryPromise,
@@ -29,12 +29,12 @@ pub struct Description {
     pub auxiliary_pages: u32,
     // Whether the fuse bytes have key bits.
     pub keys: bool,
-    // Where an interrupt goes while the Auxiliary Segment's code runs.
+    // Where an interrupt goes while the Auxiliary Segment's code runs; no option, as refusal 7 speaks of a vector without AS pages.
     pub auxiliary_vector: ProgramAddress,
 }
 
 // One of the two lent flash arrays.
-#[derive(Clone, Copy)]
+#[derive(Clone, Copy, PartialEq, Eq)]
 pub enum FlashArray {
     GeneralArray,
     AuxiliaryArray,
@@ -42,16 +42,9 @@ pub enum FlashArray {
 
 // Where an instruction location lies: its array, and its index there.
 #[derive(Clone, Copy)]
-pub enum Place {
-    Unimplemented,
-    InArray(FlashArray, u32),
-}
-
-// Whose code runs.
-#[derive(Clone, Copy)]
-pub enum Running {
-    NotExecutable,
-    Executing(Origin),
+pub struct Place {
+    pub array: FlashArray,
+    pub index: u32,
 }
 
 impl Description {
@@ -79,7 +72,7 @@ fn good_vector(description: Description) -> bool
 {
     let vector = description.auxiliary_vector.0;
     if has_auxiliary(description) {
-        (vector % 2 == 0) & (0x7FFFC0 <= vector) & (vector <= 0x7FFFFE)
+        (vector % 2 == 0) & (0x7FFFC0..=0x7FFFFE).contains(&vector)
     } else {
         vector == 0
     }
@@ -89,8 +82,8 @@ fn good_vector(description: Description) -> bool
 pub fn is_valid(description: Description) -> bool
     ensures { IsValidPromise description result }
 {
-    let page = (description.page_words == 512) | (description.page_words == 1024);
-    let general = (1 <= description.general_pages) & (description.general_pages <= 64);
+    let page = matches!(description.page_words, 512 | 1024);
+    let general = (1..=64).contains(&description.general_pages);
     let auxiliary = description.auxiliary_pages <= 16;
     page & general & auxiliary & good_vector(description)
 }
@@ -129,107 +122,83 @@ fn auxiliary_first(description: Description) -> usize
 }
 
 #[tactic(auto, unfolding(crate::specs::Places::place_of))]
-fn place_of(description: Description, location: InstructionLocation) -> Place
+fn place_of(description: Description, location: InstructionLocation) -> Option<Place>
     ensures { result ≡ place_of description location }
 {
     let index = location.0 as usize;
-    let general = words(description.general_pages, description.page_words);
-    let first = auxiliary_first(description);
-    let in_memory = index < auxiliary_end();
-    if !in_memory {
-        return Place::Unimplemented;
+    if auxiliary_end() <= index {
+        return None;
     }
-    let in_general = index < general;
-    if in_general {
-        return Place::InArray(FlashArray::GeneralArray, location.0);
+    if index < words(description.general_pages, description.page_words) {
+        return Some(Place {
+            array: FlashArray::GeneralArray,
+            index: location.0,
+        });
     }
-    let in_auxiliary = first <= index;
-    if in_auxiliary {
-        return Place::InArray(FlashArray::AuxiliaryArray, (index - first) as u32);
-    }
-    Place::Unimplemented
+    let from_first = index.checked_sub(auxiliary_first(description))?;
+    Some(Place {
+        array: FlashArray::AuxiliaryArray,
+        index: from_first as u32,
+    })
 }
 
-pub fn place_at(description: Description, address: ProgramAddress) -> Place
+// Where an address lies; nowhere, if it is unimplemented.
+pub fn place_at(description: Description, address: ProgramAddress) -> Option<Place>
     ensures { PlaceAtPromise description address result }
 {
     place_of(description, address.location())
 }
 
-pub fn is_implemented(place: Place) -> bool
+// By the paper's word, as its promise names it.
+pub fn is_implemented(place: Option<Place>) -> bool
     ensures { IsImplementedPromise place result }
 {
-    match place {
-        Place::Unimplemented => false,
-        Place::InArray(_, _) => true,
-    }
+    place.is_some()
 }
 
-pub fn is_auxiliary(place: Place) -> bool
+pub fn is_auxiliary(place: Option<Place>) -> bool
     ensures { IsAuxiliaryPromise place result }
 {
-    match place {
-        Place::Unimplemented => false,
-        Place::InArray(array, _) => match array {
-            FlashArray::GeneralArray => false,
-            FlashArray::AuxiliaryArray => true,
-        },
-    }
+    place.is_some_and(|place| place.array == FlashArray::AuxiliaryArray)
 }
 
 // Code of the General Segment runs from its own words and from the Reset instruction, and nowhere else in the vectors.
-fn running_in(pc: ProgramAddress, place: Place) -> Running
-    ensures { result ≡ running_in pc place }
+fn running_in(pc: ProgramAddress, place: Place) -> Option<Origin>
+    ensures { result ≡ code_in pc place.array place.index }
 {
-    match place {
-        Place::Unimplemented => Running::NotExecutable,
-        Place::InArray(array, index) => match array {
-            FlashArray::GeneralArray => {
-                let executable = (pc.0 == 0) | (VECTOR_WORDS <= index);
-                if executable {
-                    Running::Executing(Origin::FromGeneral)
-                } else {
-                    Running::NotExecutable
-                }
-            }
-            FlashArray::AuxiliaryArray => Running::Executing(Origin::FromAuxiliary),
-        },
+    match place.array {
+        FlashArray::GeneralArray => {
+            let executable = (pc.0 == 0) | (VECTOR_WORDS <= place.index);
+            executable.then_some(Origin::FromGeneral)
+        }
+        FlashArray::AuxiliaryArray => Some(Origin::FromAuxiliary),
     }
 }
 
-// Whose code runs at a PC, any 32-bit number.
+// Whose code runs at a PC, any 32-bit number; nobody's, where it is not executable.
 #[tactic(auto, unfolding(crate::specs::Places::running_at))]
-pub fn running_at(description: Description, pc: ProgramAddress) -> Running
+pub fn running_at(description: Description, pc: ProgramAddress) -> Option<Origin>
     ensures { RunningAtPromise description pc result }
 {
-    if pc.0 % 2 == 0 {
-        running_in(pc, place_at(description, pc))
-    } else {
-        Running::NotExecutable
+    if pc.0 % 2 != 0 {
+        return None;
     }
+    running_in(pc, place_at(description, pc)?)
 }
 
 pub fn from_general(origin: Origin) -> bool
     ensures { FromGeneralPromise origin result }
 {
-    match origin {
-        Origin::FromGeneral => true,
-        Origin::FromAuxiliary => false,
-    }
+    origin == Origin::FromGeneral
 }
 
 // The segment of a word, where the first words of the General Segment's array count as vectors.
-pub fn segment_of(vectors: u32, array: FlashArray, index: u32) -> Segment
-    ensures { SegmentOfPromise vectors array index result }
+pub fn segment_of(vectors: u32, place: Place) -> Segment
+    ensures { SegmentOfPromise vectors place result }
 {
-    match array {
-        FlashArray::GeneralArray => {
-            if index < vectors {
-                Segment::Vectors
-            } else {
-                Segment::General
-            }
-        }
+    match place.array {
+        FlashArray::GeneralArray if place.index < vectors => Segment::Vectors,
+        FlashArray::GeneralArray => Segment::General,
         FlashArray::AuxiliaryArray => Segment::Auxiliary,
     }
 }

@@ -16,7 +16,7 @@ pub enum Operation {
 }
 
 // The segment whose code asks.
-#[derive(Clone, Copy)]
+#[derive(Clone, Copy, PartialEq, Eq)]
 pub enum Origin {
     FromGeneral,
     FromAuxiliary,
@@ -50,18 +50,15 @@ const ALLOWED: [[bool; 12]; 4] = [
     [Y, Y, Y, Y, Y, Y, N, N, Y, Y, Y, Y],
 ];
 
+// This number and the columns' are by cases, as the printed table has them.
 fn row_number(operation: Operation, origin: Origin) -> usize
     ensures { result ≡ row_number operation origin }
 {
-    match operation {
-        Operation::Program => match origin {
-            Origin::FromAuxiliary => 0,
-            Origin::FromGeneral => 1,
-        },
-        Operation::Read => match origin {
-            Origin::FromAuxiliary => 2,
-            Origin::FromGeneral => 3,
-        },
+    match (operation, origin) {
+        (Operation::Program, Origin::FromAuxiliary) => 0,
+        (Operation::Program, Origin::FromGeneral) => 1,
+        (Operation::Read, Origin::FromAuxiliary) => 2,
+        (Operation::Read, Origin::FromGeneral) => 3,
     }
 }
 
@@ -97,9 +94,11 @@ fn protection_column(protection: WriteProtection) -> usize
 fn column_of(target: Target) -> usize
     ensures { result ≡ column_of target }
 {
-    let segment = target.segment;
-    let level = target.level;
-    let protection = target.protection;
+    let Target {
+        segment,
+        level,
+        protection,
+    } = target;
     segment_column(segment) + level_column(level) + protection_column(protection)
 }
 

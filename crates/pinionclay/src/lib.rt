@@ -11,6 +11,7 @@ use device::State;
 fn write_unless_refused(number: u32, state: State, lent: &mut [u32; numbers::STATE])
     ensures { lent.new ≡ written number lent.old state }
 {
+    // Numbers and no `Answer`, since C is handed numbers: 6 to 9 refuse.
     if number < 6 {
         numbers::write(state, lent);
     }
@@ -31,8 +32,7 @@ pub extern "C" fn pinionclay_run(
     ensures { PinionclayRunPromise description.now state.old gs.old aux.old
         events.now limit slots.old result state.new gs.new aux.new slots.new count.new }
 {
-    let before = numbers::state_of(state);
-    let ran = before.run(
+    let ran = numbers::state_of(state).run(
         numbers::description_of(description),
         gs,
         aux,
@@ -40,11 +40,9 @@ pub extern "C" fn pinionclay_run(
         slots,
         limit,
     );
-    let answer = ran.answer;
-    let after = ran.state;
-    let number = answer.number();
+    let number = ran.answer.number();
     *count = ran.count;
-    write_unless_refused(number, after, state);
+    write_unless_refused(number, ran.state, state);
     number
 }
 
@@ -63,25 +61,21 @@ pub extern "C" fn pinionclay_step(
     ensures { PinionclayStepPromise description.now state.old gs.old aux.old
         kind a b result state.new gs.new aux.new value.new }
 {
-    let list = [kind, a, b];
     let mut answered = [0u32; 2];
-    let before = numbers::state_of(state);
-    let ran = before.run(
+    let ran = numbers::state_of(state).run(
         numbers::description_of(description),
         gs,
         aux,
-        &list,
+        &[kind, a, b],
         &mut answered,
         1,
     );
-    let answer = ran.answer;
-    let after = ran.state;
     if ran.count == 0 {
         *value = 0;
-        return answer.number();
+        return ran.answer.number();
     }
-    let number = answered[0];
-    *value = answered[1];
-    write_unless_refused(number, after, state);
+    let [number, answer_value] = answered;
+    *value = answer_value;
+    write_unless_refused(number, ran.state, state);
     number
 }

@@ -1,5 +1,5 @@
 -- While S is at high level, every decision is harmless. Assumes nothing.
-use Rattle.std.specs.Prelude.{ℕ, ◌+◌, ◌-◌, ◌%◌, ◌≤◌, ◌<◌, ◌≡◌, refl, Bool, true, false, not, ◌&&◌, List, eqb, ltb}
+use Rattle.std.specs.Prelude.{ℕ, ◌+◌, ◌-◌, ◌%◌, ◌≤◌, ◌<◌, ◌≡◌, refl, Bool, true, false, not, ◌&&◌, List, eqb, ltb, Option, Some, None}
 use Rattle.std.proofs.Math.Nat.{mod-le, mod-eq-sub-mod}
 use native.Mathlib.Omega.{arith}
 use Rattle.std.proofs.Common.{sym, ltb-true, ltb-false, eqb-true}
@@ -8,7 +8,7 @@ use Rattle.measure.specs.Measures.{even, address}
 use Rattle.measure.specs.declared.ProgramAddress.{ProgramAddress}
 use Rattle.fuse.specs.Byte.{stored_byte, level_of, write_protection_of, is_high}
 use Rattle.fuse.specs.declared.Level.{Level}
-use Rattle.fuse.specs.declared.Level.TheVariants.{None, High}
+use Rattle.fuse.specs.declared.Level.TheVariants.{None as level_none, High}
 use Rattle.fuse.specs.declared.WriteProtection.{WriteProtection}
 use Rattle.fuse.specs.declared.WriteProtection.TheVariants.{Writable, Protected}
 use Rattle.permission.specs.Table.{row_of, allowed}
@@ -20,7 +20,7 @@ use Rattle.permission.specs.declared.Segment.{Segment}
 use Rattle.permission.specs.declared.Segment.TheVariants.{General, Auxiliary, Vectors}
 use Rattle.flash.specs.Parts.{start_of}
 use Rattle.part.specs.Descriptions.{page_words_of, good_page, good_general, good_auxiliary, good_vector, is_valid, has_auxiliary}
-use Rattle.part.specs.Places.{place_at, is_implemented, vector_words, running_at, from_general, target_of}
+use Rattle.part.specs.Places.{place_at, is_implemented, in_array, vector_words, running_at, from_general, target_of}
 use Rattle.rules.specs.Rules.{
   next,
   is_shut,
@@ -63,9 +63,6 @@ use Rattle.event.specs.declared.Event.TheVariants.{
 use Rattle.part.specs.declared.FlashArray.{FlashArray}
 use Rattle.part.specs.declared.FlashArray.TheVariants.{GeneralArray, AuxiliaryArray}
 use Rattle.part.specs.declared.Place.{Place}
-use Rattle.part.specs.declared.Place.TheVariants.{Unimplemented, InArray}
-use Rattle.part.specs.declared.Running.{Running}
-use Rattle.part.specs.declared.Running.TheVariants.{NotExecutable, Executing}
 use Rattle.rules.specs.declared.Registers.{Registers}
 use Rattle.rules.specs.declared.Change.{Change}
 use Rattle.rules.specs.declared.Change.TheVariants.{Row, Page}
@@ -106,7 +103,7 @@ high_cells : (operation : Operation) (origin : Origin) (segment : Segment) (leve
     → allowed operation origin (record { segment = segment; level = level; protection = protection }) ≡ true
     → open_to operation origin segment ≡ true
 unfolding allowed row_of
-high_cells operation origin segment None protection h t = absurd (false≢true h)
+high_cells operation origin segment level_none protection h t = absurd (false≢true h)
 high_cells operation FromGeneral General High protection h t = refl
 high_cells operation FromAuxiliary Auxiliary High protection h t = refl
 high_cells Program FromGeneral Auxiliary High Writable h t = t
@@ -127,7 +124,7 @@ high_cells Read origin Vectors High protection h t = refl
 
 module _ (d : Description) (r : Registers) where
   -- a word of S is read by S's own code only
-  read_own : (S : FlashArray) (origin : Origin) (n : ℕ) → high_in d S r ≡ true → may_read d r origin S n ≡ true → is_own S origin ≡ false
+  read_own : (S : FlashArray) (origin : Origin) (n : ℕ) → high_in d S r ≡ true → may_read d r origin (in_array S n) ≡ true → is_own S origin ≡ false
       → n < vectors_in S
   unfolding target_of
   read_own GeneralArray origin n h t f =
@@ -142,7 +139,7 @@ module _ (d : Description) (r : Registers) where
 
   -- a row or a page of S is changed by S's own code only, and never the vectors
   change_own : (S : FlashArray) (origin : Origin) (change : Change) (n : ℕ) → high_in d S r ≡ true → is_valid d ≡ true
-      → may_change d r origin S n ≡ true
+      → may_change d r origin (in_array S n) ≡ true
       → OwnChange d S (is_own S origin) change n
   unfolding target_of
   change_own GeneralArray origin change n h v t =
@@ -157,21 +154,21 @@ module _ (d : Description) (r : Registers) where
       record { code = high_cells Program origin Auxiliary _ (write_protection_of r.fas) h t; past = omega arith }
 
   module _ (S : FlashArray) (h : high_in d S r ≡ true) where
-    read_quiet : (origin : Origin) (place : Place) → Quiet d S (is_own S origin) (read_in d r origin place)
+    read_quiet : (origin : Origin) (place : Option Place) → Quiet d S (is_own S origin) (read_in d r origin place)
     unfolding read_in
-    read_quiet origin Unimplemented = record { holds = tt }
-    read_quiet origin (InArray array n) =
-        by_test (Quiet d S (is_own S origin)) (may_read d r origin array n)
-        (λ t. record { holds = λ e. read_own S origin n h (rw e at t) })
+    read_quiet origin None = record { holds = tt }
+    read_quiet origin (Some place) =
+        by_test (Quiet d S (is_own S origin)) (may_read d r origin place)
+        (λ t. record { holds = λ e. read_own S origin place.index h (rw e at t) })
         (λ _. record { holds = tt })
 
-    change_quiet : (change : Change) (origin : Origin) → is_valid d ≡ true → (place : Place)
+    change_quiet : (change : Change) (origin : Origin) → is_valid d ≡ true → (place : Option Place)
         → Quiet d S (is_own S origin) (change_in change d r origin place)
     unfolding change_in
-    change_quiet change origin v Unimplemented = record { holds = tt }
-    change_quiet change origin v (InArray array n) =
-        by_test (Quiet d S (is_own S origin)) (may_change d r origin array n)
-        (λ t. record { holds = λ e. change_own S origin change n h v (rw e at t) })
+    change_quiet change origin v None = record { holds = tt }
+    change_quiet change origin v (Some place) =
+        by_test (Quiet d S (is_own S origin)) (may_change d r origin place)
+        (λ t. record { holds = λ e. change_own S origin change place.index h v (rw e at t) })
         (λ _. record { holds = tt })
 
   -- a byte is stored in a fuse byte that is high only if the level stays
@@ -240,10 +237,10 @@ module _ (d : Description) (S : FlashArray) (r : Registers) (vectors : List ℕ)
   rule_quiet origin (ProgramFas byte) = fas_quiet d r S (is_own S origin) byte h
   rule_quiet origin PowerOn = record { holds = tt }
 
-  from_quiet : (event : Event) (running : Running) → Quiet d S (own_code S running) (rule_from d r vectors event running)
+  from_quiet : (event : Event) (running : Option Origin) → Quiet d S (own_code S running) (rule_from d r vectors event running)
   unfolding rule_from
-  from_quiet event NotExecutable = record { holds = tt }
-  from_quiet event (Executing origin) = rule_quiet origin event
+  from_quiet event None = record { holds = tt }
+  from_quiet event (Some origin) = rule_quiet origin event
 
   -- on a good description, S being at high level
   pub decide_quiet : (event : Event) → Quiet d S (issued_from d S r) (decide d r vectors event)

@@ -14,8 +14,6 @@ use Rattle.measure.specs.declared.ProgramAddress.{ProgramAddress}
 use Rattle.measure.specs.declared.InstructionLocation.{InstructionLocation}
 use Rattle.measure.specs.Words.{word_of}
 use Rattle.flash.specs.Operations.{read_word}
-use Rattle.flash.specs.declared.WordFound.{WordFound}
-use Rattle.flash.specs.declared.WordFound.TheVariants.{Word, NoWord}
 use Rattle.permission.specs.declared.Origin.{Origin}
 use Rattle.event.specs.declared.Event.{Event}
 use Rattle.event.specs.declared.Event.TheVariants.{
@@ -51,9 +49,7 @@ use Rattle.part.specs.Descriptions.{general_words}
 use Rattle.part.specs.Places.{auxiliary_end, auxiliary_first, place_of, place_at, is_implemented, running_in, running_at}
 use Rattle.part.specs.declared.Description.{Description}
 use Rattle.part.specs.declared.Place.{Place}
-use Rattle.part.specs.declared.Place.TheVariants.{Unimplemented, InArray}
-use Rattle.part.specs.declared.Running.{Running}
-use Rattle.part.specs.declared.Running.TheVariants.{NotExecutable, Executing}
+use Rattle.std.specs.Prelude.{Option, Some, None, unwrap_or}
 
 -- ---- code that runs lies in memory, whatever the description
 
@@ -65,44 +61,38 @@ module _ (d : Description) where
       (λ t. by_test Below (ltb l.0 (general_words d)) (λ _ e. below t)
       (λ _. by_test Below (leb (auxiliary_first d) l.0) (λ _ e. below t) (λ _ e. absurd (false≢true e))))
     where
-      Below : Place → Type 0
+      Below : Option Place → Type 0
       Below place = is_implemented place ≡ true → l.0 < auxiliary_end
 
       below : not (ltb l.0 auxiliary_end) ≡ false → l.0 < auxiliary_end
       below t = ltb-true l.0 auxiliary_end (not-false _ t)
 
-  not_executing : {A : Type 0} {origin : Origin} → NotExecutable ≡ Executing origin → A
-  not_executing {A} {origin} e = let z : ◌≡◌ {A = ℕ} 0 1 = cc in absurd (omega arith)
+  not_running : {A : Type 0} {origin : Origin} → None ≡ Some origin → A
+  not_running {A} {origin} e = let z : ◌≡◌ {A = ℕ} 0 1 = cc in absurd (omega arith)
 
-  executing_in : (pc : ProgramAddress) (place : Place) {origin : Origin} → running_in pc place ≡ Executing origin → is_implemented place ≡ true
-  executing_in pc Unimplemented e = not_executing e
-  executing_in pc (InArray array n) e = refl
+  running_implemented : (pc : ProgramAddress) (place : Option Place) {origin : Origin} → running_in pc place ≡ Some origin
+      → is_implemented place ≡ true
+  running_implemented pc None e = not_running e
+  running_implemented pc (Some place) e = refl
 
-  pub executing_lt : (pc : ProgramAddress) {origin : Origin} → running_at d pc ≡ Executing origin → pc.0 < 0x800000
+  pub running_lt : (pc : ProgramAddress) {origin : Origin} → running_at d pc ≡ Some origin → pc.0 < 0x800000
   unfolding running_at
-  executing_lt pc {origin} =
+  running_lt pc {origin} =
       by_test Low (even pc.0)
-      (λ _ e. omega (arith, implemented_lt (location_of pc) (executing_in pc (place_at d pc) e)))
-      (λ _ e. not_executing e)
+      (λ _ e. omega (arith, implemented_lt (location_of pc) (running_implemented pc (place_at d pc) e)))
+      (λ _ e. not_running e)
     where
-      Low : Running → Type 0
-      Low r = r ≡ Executing origin → pc.0 < 0x800000
+      Low : Option Origin → Type 0
+      Low running = running ≡ Some origin → pc.0 < 0x800000
 
 -- ---- the word of a vector
 
 -- an array has the word at an index, or it is 0
-pub found_word : (flash : List ℕ) (n word : ℕ) → read_word flash n ≡ Word word → word ≡ word_of (get_or flash n 0)
+pub word_or_zero : (flash : List ℕ) (n : ℕ) → unwrap_or (read_word flash n) 0 ≡ word_of (get_or flash n 0)
 unfolding read_word
-found_word flash n word =
-    by_test (λ (found : WordFound). found ≡ Word word → word ≡ word_of (get_or flash n 0)) (ltb n (length flash)) (λ _ e. cc)
-    (λ _ e. absurd (let z : ◌≡◌ {A = ℕ} 0 1 = cc in omega arith))
-
-pub no_word : (flash : List ℕ) (n : ℕ) → read_word flash n ≡ NoWord → 0 ≡ word_of (get_or flash n 0)
-unfolding read_word
-no_word flash n =
-    by_test (λ (found : WordFound). found ≡ NoWord → 0 ≡ word_of (get_or flash n 0)) (ltb n (length flash))
-    (λ _ e. absurd (let z : ◌≡◌ {A = ℕ} 0 1 = cc in omega arith))
-    (λ t _. ap word_of (sym (get_or-eq_default flash 0 (ltb-false n (length flash) t))))
+word_or_zero flash n =
+    by_test (λ (found : Option ℕ). unwrap_or found 0 ≡ word_of (get_or flash n 0)) (ltb n (length flash)) (λ _. refl)
+    (λ f. ap word_of (sym (get_or-eq_default flash 0 (ltb-false n (length flash) f))))
 
 -- the word at 0x000004 + 2 × vector is the second after the vectors' start, and so on
 pub vector_index : (vector : ℕ) → (0x000004 + 2 * vector) / 2 ≡ 2 + vector

@@ -41,8 +41,8 @@ harmless d S own Reset = Unit {0}
 harmless d S own PowerUp = Unit {0}
 harmless d S own (MoveTo target) = Unit {0}
 harmless d S own (LoadLatch latch word) = Unit {0}
-harmless d S own (ReadAt array n) = array ≡ S → own ≡ false → n < vectors_in S
-harmless d S own (ChangeAt change array n) = array ≡ S → OwnChange d S own change n
+harmless d S own (ReadAt place) = place.array ≡ S → own ≡ false → place.index < vectors_in S
+harmless d S own (ChangeAt change place) = place.array ≡ S → OwnChange d S own change place.index
 harmless d S own (EraseWhole array) = Unit {0}
 harmless d S own (StoreFuse array byte) = array ≡ S → is_high (level_of d.keys byte) ≡ true
 

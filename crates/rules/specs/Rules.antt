@@ -1,6 +1,6 @@
 -- Document 01, "The rules": what each event comes to. Nothing here looks at flash but for the words of the vector space, which are
 -- handed in. `d` is the description, `r` the registers. Assumes nothing.
-use Rattle.std.specs.Prelude.{ℕ, ◌+◌, ◌*◌, ◌%◌, Bool, true, false, not, ◌&&◌, ◌||◌, List, leb, get_or, if◌then◌else◌}
+use Rattle.std.specs.Prelude.{ℕ, ◌+◌, ◌*◌, ◌%◌, Bool, true, false, not, ◌&&◌, ◌||◌, List, leb, get_or, if◌then◌else◌, Option, Some, None}
 use Rattle.measure.specs.Measures.{even, address, location_of}
 use Rattle.measure.specs.Words.{word_of}
 use Rattle.measure.specs.declared.ProgramAddress.{ProgramAddress}
@@ -32,12 +32,8 @@ use Rattle.event.specs.declared.Event.TheVariants.{
 }
 use Rattle.rules.specs.declared.Answer.{Answer}
 use Rattle.rules.specs.declared.Answer.TheVariants.{Zeroed, NotStarted, Stopped}
-use Rattle.part.specs.declared.FlashArray.{FlashArray}
 use Rattle.part.specs.declared.FlashArray.TheVariants.{GeneralArray, AuxiliaryArray}
 use Rattle.part.specs.declared.Place.{Place}
-use Rattle.part.specs.declared.Place.TheVariants.{Unimplemented, InArray}
-use Rattle.part.specs.declared.Running.{Running}
-use Rattle.part.specs.declared.Running.TheVariants.{NotExecutable, Executing}
 use Rattle.rules.specs.declared.Registers.{Registers}
 use Rattle.rules.specs.declared.Change.{Change}
 use Rattle.rules.specs.declared.Change.TheVariants.{Row, Page}
@@ -95,16 +91,16 @@ interrupt d r vectors FromAuxiliary vector = MoveTo (auxiliary_vector_of d)
 interrupt d r vectors FromGeneral vector = to_vector d r vectors vector
 
 -- the target column of a word, where the first so many words of the GS array count as VS
-abbrev pub target_in : Description → Registers → ℕ → FlashArray → ℕ → Target
-target_in d r vectors array n = target_of d.keys r.fgs r.fas (segment_of vectors array n)
+abbrev pub target_in : Description → Registers → ℕ → Place → Target
+target_in d r vectors place = target_of d.keys r.fgs r.fas (segment_of vectors place)
 
 -- Rule 4. "Table read: the word if allowed, else 1." "Unimplemented: 1 (house)." Only below 0x000200 is VS for reads.
-abbrev pub may_read : Description → Registers → Origin → FlashArray → ℕ → Bool
-may_read d r origin array n = allowed Read origin (target_in d r vector_words array n)
+abbrev pub may_read : Description → Registers → Origin → Place → Bool
+may_read d r origin place = allowed Read origin (target_in d r vector_words place)
 
-unfoldable pub read_in : Description → Registers → Origin → Place → Decision
-read_in d r origin Unimplemented = Refuse Zeroed
-read_in d r origin (InArray array n) = or_refuse (may_read d r origin array n) (ReadAt array n) Zeroed
+unfoldable pub read_in : Description → Registers → Origin → Option Place → Decision
+read_in d r origin None = Refuse Zeroed
+read_in d r origin (Some place) = or_refuse (may_read d r origin place) (ReadAt place) Zeroed
 
 abbrev pub table_read : Description → Registers → Origin → ProgramAddress → Decision
 table_read d r origin a = read_in d r origin (place_at d a)
@@ -114,13 +110,13 @@ abbrev pub table_write : ProgramAddress → ℕ → Decision
 table_write a word = LoadLatch ((location_of a).0 % row_words) word
 
 -- Rule 8. "the target column is VS for the whole of page 0"; the rest is table 23-1.
-abbrev pub may_change : Description → Registers → Origin → FlashArray → ℕ → Bool
-may_change d r origin array n = allowed Program origin (target_in d r (page_words_of d) array n)
+abbrev pub may_change : Description → Registers → Origin → Place → Bool
+may_change d r origin place = allowed Program origin (target_in d r (page_words_of d) place)
 
 -- Rules 6 and 7, "Program row" and "Erase page", of a place: "Unimplemented: 2", else what rule 8 allows
-unfoldable pub change_in : Change → Description → Registers → Origin → Place → Decision
-change_in change d r origin Unimplemented = Refuse NotStarted
-change_in change d r origin (InArray array n) = or_refuse (may_change d r origin array n) (ChangeAt change array n) NotStarted
+unfoldable pub change_in : Change → Description → Registers → Origin → Option Place → Decision
+change_in change d r origin None = Refuse NotStarted
+change_in change d r origin (Some place) = or_refuse (may_change d r origin place) (ChangeAt change place) NotStarted
 
 abbrev pub change_at : Change → Description → Registers → Origin → ProgramAddress → Decision
 change_at change d r origin a = change_in change d r origin (place_at d a)
@@ -182,9 +178,9 @@ is_power_on (ProgramFgs byte) = false
 is_power_on (ProgramFas byte) = false
 is_power_on PowerOn = true
 
-unfoldable pub rule_from : Description → Registers → List ℕ → Event → Running → Decision
-rule_from d r vectors event NotExecutable = Trap
-rule_from d r vectors event (Executing origin) = own_rule d r vectors origin event
+unfoldable pub rule_from : Description → Registers → List ℕ → Event → Option Origin → Decision
+rule_from d r vectors event None = Trap
+rule_from d r vectors event (Some origin) = own_rule d r vectors origin event
 
 -- of any description: `step` and `run` refuse one that is not good before
 unfoldable pub decide : Description → Registers → List ℕ → Event → Decision

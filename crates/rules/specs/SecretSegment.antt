@@ -1,14 +1,12 @@
 -- Demand 3, the words about the secret segment S that speak of no device. S is named by its array: GeneralArray for GS without its
 -- vectors, AuxiliaryArray for AS. Assumes nothing.
-use Rattle.std.specs.Prelude.{ℕ, Bool, false, not}
+use Rattle.std.specs.Prelude.{ℕ, Bool, false, not, Option, Some, None}
 use Rattle.fuse.specs.Byte.{level_of, is_high}
 use Rattle.permission.specs.declared.Origin.{Origin}
 use Rattle.part.specs.Places.{vector_words, running_at, from_general}
 use Rattle.part.specs.declared.Description.{Description}
 use Rattle.part.specs.declared.FlashArray.{FlashArray}
 use Rattle.part.specs.declared.FlashArray.TheVariants.{GeneralArray, AuxiliaryArray}
-use Rattle.part.specs.declared.Running.{Running}
-use Rattle.part.specs.declared.Running.TheVariants.{NotExecutable, Executing}
 use Rattle.rules.specs.declared.Registers.{Registers}
 
 abbrev pub other_array : FlashArray → FlashArray
@@ -33,9 +31,9 @@ abbrev pub is_own : FlashArray → Origin → Bool
 is_own GeneralArray origin = from_general origin
 is_own AuxiliaryArray origin = not (from_general origin)
 
-abbrev pub own_code : FlashArray → Running → Bool
-own_code S NotExecutable = false
-own_code S (Executing origin) = is_own S origin
+abbrev pub own_code : FlashArray → Option Origin → Bool
+own_code S None = false
+own_code S (Some origin) = is_own S origin
 
 abbrev pub issued_from : Description → FlashArray → Registers → Bool
 issued_from d S r = own_code S (running_at d r.pc)

@@ -1,13 +1,14 @@
 // The rules: what each event comes to. Nothing here looks at flash but for the words of the vector space, which are lent.
 #![tactic(auto)]
 
-ghost use Rattle.std.specs.Prelude.{◌≡◌, ◌<◌};
-ghost use Rattle.rules.specs.Rules.{or_refuse, own_rule, is_power_on};
+ghost use Rattle.std.specs.Prelude.{◌≡◌, Some};
+ghost use Rattle.part.specs.Places.{running_at};
+ghost use Rattle.rules.specs.Rules.{or_refuse, own_rule};
 ghost use Rattle.rules.specs.Promises.{NumberPromise, ValuePromise, DecidePromise};
 
 use event::Event;
 use measure::ProgramAddress;
-use part::{Description, FlashArray, Running};
+use part::{Description, FlashArray, Place};
 use permission::Origin;
 
 mod flow;
@@ -37,7 +38,7 @@ pub enum Change {
     Page,
 }
 
-// What an event comes to: it is decided first, and then carried out.
+// What an event comes to: it is decided first, and then carried out. Cases and no closures, as secrecy (`harmless`) goes by them.
 #[derive(Clone, Copy)]
 pub enum Decision {
     // Answer, and change nothing.
@@ -48,9 +49,9 @@ pub enum Decision {
     MoveTo(ProgramAddress),
     // Latch, word.
     LoadLatch(u32, u32),
-    ReadAt(FlashArray, u32),
+    ReadAt(Place),
     // The row or page that holds the word.
-    ChangeAt(Change, FlashArray, u32),
+    ChangeAt(Change, Place),
     // Erase the whole array and clear its fuse byte.
     EraseWhole(FlashArray),
     // Store its fuse byte.
@@ -65,6 +66,15 @@ pub struct Registers {
     pub stopped: bool,
     pub fgs: u8,
     pub fas: u8,
+}
+
+// Code that runs: on which part, with which registers, from which segment.
+#[derive(Clone, Copy)]
+struct Code {
+    description: Description,
+    registers: Registers,
+    origin: Origin,
+    ghost runs: { running_at description registers.pc ≡ Some origin },
 }
 
 impl Answer {
@@ -108,54 +118,32 @@ fn or_refuse(test: bool, decision: Decision, answer: Answer) -> Decision
     }
 }
 
-#[tactic(auto, unfolding(crate::specs::Rules::own_rule))]
-fn own_rule(
-    description: Description,
-    registers: Registers,
-    vectors: &[u32],
-    origin: Origin,
-    event: Event,
-) -> Decision
-    requires { registers.pc.0 < 0x800000 }
-    ensures { result ≡ own_rule description registers vectors.now origin event }
-{
-    match event {
-        Event::Next => flow::next(description, registers),
-        Event::FlowChange(target) => flow::flow_change(description, registers, origin, target),
-        Event::Interrupt(vector) => flow::interrupt(
-            description,
-            registers,
-            vectors,
-            origin,
-            vector,
-        ),
-        Event::TableRead(address) => words::table_read(description, registers, origin, address),
-        Event::TableWrite(address, word) => words::table_write(address, word),
-        // One call for both: with two the compiler does not open it into the loop of a run.
-        Event::ProgramRow(address) | Event::ErasePage(address) => {
-            let change = words::change_of(event);
-            words::change_at(change, description, registers, origin, address)
+impl Code {
+    #[tactic(auto, unfolding(crate::specs::Rules::own_rule))]
+    fn own_rule(self, vectors: &[u32], event: Event) -> Decision
+        ensures { result ≡ own_rule self.description self.registers vectors.now self.origin event }
+    {
+        match event {
+            Event::Next => self.next(),
+            Event::FlowChange(target) => self.flow_change(target),
+            Event::Interrupt(vector) => self.interrupt(vectors, vector),
+            Event::TableRead(address) => self.table_read(address),
+            Event::TableWrite(address, word) => words::table_write(address, word),
+            // One call for both: with two the compiler does not open it into the loop of a run.
+            Event::ProgramRow(address) | Event::ErasePage(address) => {
+                self.change_at(words::change_of(event), address)
+            }
+            Event::EraseGeneral => self.erase_general(),
+            Event::EraseAuxiliary => self.erase_auxiliary(),
+            Event::ProgramFgs(byte) => self.program_fgs(byte),
+            Event::ProgramFas(byte) => self.program_fas(byte),
+            Event::PowerOn => Decision::PowerUp,
         }
-        Event::EraseGeneral => protection::erase_general(origin),
-        Event::EraseAuxiliary => protection::erase_auxiliary(description, origin),
-        Event::ProgramFgs(byte) => protection::program_fgs(description, registers, byte),
-        Event::ProgramFas(byte) => protection::program_fas(description, registers, byte),
-        Event::PowerOn => Decision::PowerUp,
-    }
-}
-
-#[tactic(auto, using(crate::proofs::Laws::no_power_on))]
-fn is_power_on(event: Event) -> bool
-    ensures { result ≡ is_power_on event }
-{
-    match event {
-        Event::PowerOn => true,
-        _ => false,
     }
 }
 
 // What an event comes to: power-on, then a stopped device, then a PC that is not executable, then the event's own rule.
-#[tactic(auto, using(crate::proofs::Laws::executing_lt), unfolding(crate::specs::Rules::decide, crate::specs::Rules::rule_from))]
+#[tactic(auto, using(crate::proofs::Laws::no_power_on), unfolding(crate::specs::Rules::decide, crate::specs::Rules::rule_from))]
 pub fn decide(
     description: Description,
     registers: Registers,
@@ -164,16 +152,21 @@ pub fn decide(
 ) -> Decision
     ensures { DecidePromise description registers vectors.now event result }
 {
-    if is_power_on(event) {
+    if matches!(event, Event::PowerOn) {
         return Decision::PowerUp;
     }
     if registers.stopped {
         return Decision::Refuse(Answer::Stopped);
     }
-    let pc = registers.pc;
-    let running = part::running_at(description, pc);
-    match running {
-        Running::NotExecutable => Decision::Trap,
-        Running::Executing(origin) => own_rule(description, registers, vectors, origin, event),
+    match part::running_at(description, registers.pc) {
+        None => Decision::Trap,
+        Some(origin) => {
+            let code = Code {
+                description,
+                registers,
+                origin,
+            };
+            code.own_rule(vectors, event)
+        }
     }
 }

@@ -1,70 +1,16 @@
 // The words of flash: rules 4 to 8.
 ghost use Rattle.std.specs.Prelude.{◌≡◌};
-ghost use Rattle.rules.specs.Rules.{
-  target_in,
-  may_read,
-  table_read,
-  table_write,
-  may_change,
-  change_at,
-};
+ghost use Rattle.permission.specs.Table.{allowed};
+ghost use Rattle.rules.specs.Rules.{target_in, table_read, table_write, change_at};
 ghost use Rattle.rules.specs.Internals.{ChangeOf};
 
-use crate::{Answer, Change, Decision, Registers};
+use crate::{Answer, Change, Code, Decision};
 use event::Event;
 use measure::ProgramAddress;
-use part::{Description, FlashArray, Place};
-use permission::{Operation, Origin, Target};
+use part::Place;
+use permission::Operation;
 
 const LATCHES: u32 = flash::ROW_WORDS as u32;
-
-// The target column of a word, where the first so many words of the GS array count as vectors.
-fn target_in(
-    description: Description,
-    registers: Registers,
-    vectors: u32,
-    array: FlashArray,
-    index: u32,
-) -> Target
-    ensures { result ≡ target_in description registers vectors array index }
-{
-    let segment = part::segment_of(vectors, array, index);
-    part::target_of(description.keys, registers.fgs, registers.fas, segment)
-}
-
-// Only below 0x000200 are there vectors for reads.
-fn may_read(
-    description: Description,
-    registers: Registers,
-    origin: Origin,
-    array: FlashArray,
-    index: u32,
-) -> bool
-    ensures { result ≡ may_read description registers origin array index }
-{
-    let target = target_in(description, registers, part::VECTOR_WORDS, array, index);
-    permission::allowed(Operation::Read, origin, target)
-}
-
-// Rule 4.
-#[tactic(auto, unfolding(crate::specs::Rules::read_in))]
-pub(crate) fn table_read(
-    description: Description,
-    registers: Registers,
-    origin: Origin,
-    address: ProgramAddress,
-) -> Decision
-    ensures { result ≡ table_read description registers origin address }
-{
-    let place = part::place_at(description, address);
-    match place {
-        Place::Unimplemented => Decision::Refuse(Answer::Zeroed),
-        Place::InArray(array, index) => {
-            let test = may_read(description, registers, origin, array, index);
-            crate::or_refuse(test, Decision::ReadAt(array, index), Answer::Zeroed)
-        }
-    }
-}
 
 // Rule 5.
 pub(crate) fn table_write(address: ProgramAddress, word: u32) -> Decision
@@ -78,47 +24,51 @@ pub(crate) fn table_write(address: ProgramAddress, word: u32) -> Decision
 pub(crate) fn change_of(event: Event) -> Change
     ensures { ChangeOf event result }
 {
-    match event {
-        Event::ErasePage(_) => Change::Page,
-        _ => Change::Row,
+    if matches!(event, Event::ErasePage(_)) {
+        Change::Page
+    } else {
+        Change::Row
     }
 }
 
-// Rule 8: the whole of page 0 counts as vectors.
-fn may_change(
-    description: Description,
-    registers: Registers,
-    origin: Origin,
-    array: FlashArray,
-    index: u32,
-) -> bool
-    ensures { result ≡ may_change description registers origin array index }
-{
-    let target = target_in(description, registers, description.page_words, array, index);
-    permission::allowed(Operation::Program, origin, target)
-}
+impl Code {
+    // Whether table 23-1 allows it, where the first so many words of the GS array count as vectors.
+    fn may(self, operation: Operation, vectors: u32, place: Place) -> bool
+        ensures { result ≡ allowed operation self.origin (target_in self.description self.registers vectors place) }
+    {
+        let segment = part::segment_of(vectors, place);
+        let registers = self.registers;
+        let target = part::target_of(self.description.keys, registers.fgs, registers.fas, segment);
+        permission::allowed(operation, self.origin, target)
+    }
 
-// Rules 6 and 7.
-#[tactic(auto, unfolding(crate::specs::Rules::change_in))]
-pub(crate) fn change_at(
-    change: Change,
-    description: Description,
-    registers: Registers,
-    origin: Origin,
-    address: ProgramAddress,
-) -> Decision
-    ensures { result ≡ change_at change description registers origin address }
-{
-    let place = part::place_at(description, address);
-    match place {
-        Place::Unimplemented => Decision::Refuse(Answer::NotStarted),
-        Place::InArray(array, index) => {
-            let test = may_change(description, registers, origin, array, index);
-            crate::or_refuse(
-                test,
-                Decision::ChangeAt(change, array, index),
+    // Rule 4: only below 0x000200 are there vectors for reads.
+    #[tactic(auto, unfolding(crate::specs::Rules::read_in))]
+    pub(crate) fn table_read(self, address: ProgramAddress) -> Decision
+        ensures { result ≡ table_read self.description self.registers self.origin address }
+    {
+        match part::place_at(self.description, address) {
+            None => Decision::Refuse(Answer::Zeroed),
+            Some(place) => crate::or_refuse(
+                self.may(Operation::Read, part::VECTOR_WORDS, place),
+                Decision::ReadAt(place),
+                Answer::Zeroed,
+            ),
+        }
+    }
+
+    // Rules 6 and 7, and rule 8: the whole of page 0 counts as vectors.
+    #[tactic(auto, unfolding(crate::specs::Rules::change_in))]
+    pub(crate) fn change_at(self, change: Change, address: ProgramAddress) -> Decision
+        ensures { result ≡ change_at change self.description self.registers self.origin address }
+    {
+        match part::place_at(self.description, address) {
+            None => Decision::Refuse(Answer::NotStarted),
+            Some(place) => crate::or_refuse(
+                self.may(Operation::Program, self.description.page_words, place),
+                Decision::ChangeAt(change, place),
                 Answer::NotStarted,
-            )
+            ),
         }
     }
 }

@@ -6,71 +6,46 @@ use permission::{Operation, Origin, Segment, Target};
 use std::io;
 
 fn main(rt: HostRuntime) -> io::Result<()> {
-    print_row(&rt, "program,AS", Operation::Program, Origin::FromAuxiliary)?;
-    print_row(&rt, "program,GS", Operation::Program, Origin::FromGeneral)?;
-    print_row(&rt, "read,AS", Operation::Read, Origin::FromAuxiliary)?;
-    print_row(&rt, "read,GS", Operation::Read, Origin::FromGeneral)
-}
-
-fn print_row(rt: &impl Print, name: &str, operation: Operation, origin: Origin) -> io::Result<()> {
-    print!(rt; "{name}")?;
-    print_segment(rt, operation, origin, Segment::General)?;
-    print_segment(rt, operation, origin, Segment::Auxiliary)?;
-    print_segment(rt, operation, origin, Segment::Vectors)?;
-    println!(rt)
-}
-
-fn print_segment(
-    rt: &impl Print,
-    operation: Operation,
-    origin: Origin,
-    segment: Segment,
-) -> io::Result<()> {
-    print_level(rt, operation, origin, segment, Level::None)?;
-    print_level(rt, operation, origin, segment, Level::High)
-}
-
-fn print_level(
-    rt: &impl Print,
-    operation: Operation,
-    origin: Origin,
-    segment: Segment,
-    level: Level,
-) -> io::Result<()> {
-    print_cell(
-        rt,
-        operation,
-        origin,
-        segment,
-        level,
-        WriteProtection::Writable,
-    )?;
-    print_cell(
-        rt,
-        operation,
-        origin,
-        segment,
-        level,
-        WriteProtection::Protected,
-    )
-}
-
-fn print_cell(
-    rt: &impl Print,
-    operation: Operation,
-    origin: Origin,
-    segment: Segment,
-    level: Level,
-    protection: WriteProtection,
-) -> io::Result<()> {
-    let target = Target {
-        segment,
-        level,
-        protection,
-    };
-    if permission::allowed(operation, origin, target) {
-        print!(rt; ",Y")
-    } else {
-        print!(rt; ",N")
+    for operation in [Operation::Program, Operation::Read] {
+        for origin in [Origin::FromAuxiliary, Origin::FromGeneral] {
+            print_row(&rt, operation, origin)?;
+        }
     }
+    Ok(())
+}
+
+fn operation_name(operation: Operation) -> &'static str {
+    match operation {
+        Operation::Program => "program",
+        Operation::Read => "read",
+    }
+}
+
+fn origin_name(origin: Origin) -> &'static str {
+    match origin {
+        Origin::FromAuxiliary => "AS",
+        Origin::FromGeneral => "GS",
+    }
+}
+
+fn print_row(rt: &impl Print, operation: Operation, origin: Origin) -> io::Result<()> {
+    print!(rt; "{},{}", operation_name(operation), origin_name(origin))?;
+    for segment in [Segment::General, Segment::Auxiliary, Segment::Vectors] {
+        for level in [Level::None, Level::High] {
+            for protection in [WriteProtection::Writable, WriteProtection::Protected] {
+                let target = Target {
+                    segment,
+                    level,
+                    protection,
+                };
+                let cell = if permission::allowed(operation, origin, target) {
+                    'Y'
+                } else {
+                    'N'
+                };
+                print!(rt; ",{cell}")?;
+            }
+        }
+    }
+    println!(rt)
 }

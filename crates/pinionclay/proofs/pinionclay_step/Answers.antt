@@ -5,10 +5,10 @@ use Rattle.pinionclay.proofs.pinionclay_step.Goals as goal
 
 pub returns-then-ran-eq0 : goal.returns-then-ran-eq0
 returns-then-ran-eq0 c =
-    let ran = rw (c.state_of-before.ensures, c.description_of.ensures) at c.run-ran.ensures in
+    let ran = rw (c.state_of.ensures, c.description_of.ensures) at c.run-ran.ensures in
     rw (← one_event c.args.state.now _ _ _ _ _, ← ran, c.if-ran-eq0.true, c.number.ensures)
 
 pub returns : goal.returns
 returns c =
-    let ran = rw (c.state_of-before.ensures, c.description_of.ensures) at c.run-ran.ensures in
+    let ran = rw (c.state_of.ensures, c.description_of.ensures) at c.run-ran.ensures in
     rw (← one_event c.args.state.now _ _ _ _ _, ← ran, ne_eqb _ 0 c.if-ran-eq0.false, c.write_unless_refused.ensures)
