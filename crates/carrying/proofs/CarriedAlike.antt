@@ -10,6 +10,7 @@ use borrow.Author.Tests.{leb-true}
 use Rattle.std.proofs.Math.ListN.{length, get_or, replicate}
 use Rattle.std.proofs.lemmas.List.{take-append-le}
 use Rattle.std.proofs.Math.Seq.{get_or-take}
+use Rattle.flash.proofs.Laws.{length_zip}
 use Rattle.flash.specs.Parts.{blank, fits, start_of, part, with_part}
 use Rattle.flash.specs.Operations.{read_word, row_words, programmed_words, row_not_set, program_row_at, program_row, erase_range, erase_page}
 use Rattle.flash.specs.declared.OutsideArray.{OutsideArray}
@@ -68,12 +69,6 @@ use Rattle.rules.specs.declared.Decision.TheVariants.{
 record Fronts (k : ℕ) (u v : List ℕ) : Type 0 where
   lengths : length u ≡ length v
   front : take k u ≡ take k v
-
-length_zip : (f : ℕ → ℕ → ℕ) (old latches : List ℕ) → length (zip_with f old latches) ≡ min (length old) (length latches)
-unfolding zip_with
-length_zip f [] latches = sym (zero-min (length latches))
-length_zip f (x ∷ old) [] = sym (min-zero (suc (length old)))
-length_zip f (x ∷ old) (y ∷ latches) = ap suc (length_zip f old latches) ∙ sym (suc-min-suc (length old) (length latches))
 
 take_part : (k : ℕ) (flash : List ℕ) (first : ℕ) (new : List ℕ) → k ≤ first → first ≤ length flash
     → take k (with_part flash first new) ≡ take k flash

@@ -1,4 +1,4 @@
--- No second outcome meets the contract of this crate: `Post` is what the checker reads of the `ensures` clauses of src/.
+-- No second outcome meets a contract of this crate: `Post` is what the checker reads of the `ensures` clauses of src/.
 -- Assumes nothing.
 use mathlib.Core.Path.{◌≡◌, ap}
 use Rattle.measure.specs.OneOutcome.{OneOutcome, one_outcome}
@@ -6,8 +6,14 @@ use Rattle.rules.specs.KnownAnswers.{answer_of, answer_again}
 use Rattle.rules.specs.declared.Answer.{Answer}
 use Rattle.carrying.specs.CarryingOut.{Device, Left, leaves}
 use Rattle.carrying.specs.Lent.{as_device}
+use Rattle.carrying.proofs.array_of.Kinds as array_of_kinds
+use Rattle.carrying.proofs.array_of.Reads as array_of_reads
 use Rattle.carrying.proofs.LentDevice.carry_out.Kinds as carry_out_kinds
 use Rattle.carrying.proofs.LentDevice.carry_out.Reads as carry_out_reads
+
+-- the numbers of the part
+pub array_of_unique : OneOutcome 1 array_of_kinds.ps array_of_kinds.r array_of_reads.Post (λ κs result exit. result.now)
+array_of_unique κs arguments r r' e e' p q = one_outcome p q
 
 -- the result, and at exit the registers, the latches and both arrays
 pub record CarriedOutcome : Type 0 where

@@ -130,7 +130,7 @@ clear array device =
     let cleared = with_registers device (with_fuse device.registers array 0x03) in
     leaves (Done 0) (with_words array cleared (replicate (length (words_in array device)) blank))
 
--- Rules 10 and 11: "stores the byte, masked"
+-- Rules 10 and 11: "stores the byte", which the rule has masked
 abbrev pub store_fuse : FlashArray → ℕ → Device → Left
 store_fuse array byte device = leaves (Done 0) (with_registers device (with_fuse device.registers array byte))
 

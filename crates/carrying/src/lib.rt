@@ -5,8 +5,6 @@ ghost use Rattle.std.specs.Prelude.{◌≡◌, set};
 ghost use Rattle.flash.specs.Operations.{read_word};
 ghost use Rattle.carrying.specs.CarryingOut.{
   read_answer,
-  row_answer,
-  erase_answer,
   words_in,
   array_of,
   program,
@@ -17,9 +15,9 @@ ghost use Rattle.carrying.specs.CarryingOut.{
 ghost use Rattle.std.specs.Fn.{FnOnceReturnsAtMut};
 ghost use Rattle.rules.specs.SecretSegment.{other_array};
 ghost use Rattle.carrying.specs.Lent.{as_device, Leaves};
-ghost use Rattle.carrying.specs.Promises.{CarryOutPromise};
+ghost use Rattle.carrying.specs.Promises.{ArrayOfPromise, CarryOutPromise};
 
-use flash::{BLANK, OutsideArray, ROW_WORDS};
+use flash::{BLANK, ROW_WORDS};
 use measure::ProgramAddress;
 use part::{FlashArray, Place};
 use rules::{Answer, Change, Decision, Registers};
@@ -27,10 +25,11 @@ use rules::{Answer, Change, Decision, Registers};
 // A device besides its description, with the two flash arrays that it was lent.
 #[derive(Drop)]
 pub struct LentDevice<'a> {
-    pub registers: Registers,
-    pub latches: [u32; ROW_WORDS],
     pub general: &'a mut [u32],
     pub auxiliary: &'a mut [u32],
+    // After the arrays, where wide loads of the latches are aligned.
+    pub latches: [u32; ROW_WORDS],
+    pub registers: Registers,
 }
 
 // A fuse byte that was cleared: level none, writable.
@@ -38,16 +37,14 @@ const CLEARED: u8 = 0x03;
 
 const BLANK_LATCHES: [u32; ROW_WORDS] = [BLANK; ROW_WORDS];
 
-fn row_answer(programmed: Result<u32, OutsideArray>) -> Answer
-    ensures { result ≡ row_answer programmed }
+// The words of the array that is meant.
+pub fn array_of<'a>(array: FlashArray, general: &'a [u32], auxiliary: &'a [u32]) -> &'a [u32]
+    ensures { ArrayOfPromise array general.now auxiliary.now result.now }
 {
-    programmed.map_or(Answer::NotStarted, Answer::Done)
-}
-
-fn erase_answer(erased: Result<(), OutsideArray>) -> Answer
-    ensures { result ≡ erase_answer erased }
-{
-    erased.map_or(Answer::NotStarted, |()| Answer::Done(0))
+    match array {
+        FlashArray::GeneralArray => general,
+        FlashArray::AuxiliaryArray => auxiliary,
+    }
 }
 
 fn load(latches: &mut [u32], latch: u32, word: u32)
@@ -67,8 +64,10 @@ fn change_array<R, F: FnOnce(&mut [u32]) -> R>(
     change: F,
 ) -> R
     requires { F.IsAlwaysCallable change }
-    ensures changed { FnOnceReturnsAtMut F.FnOnce change (array_of array general.old auxiliary.old) result (array_of array general.new auxiliary.new) }
-    ensures other { array_of (other_array array) general.new auxiliary.new ≡ array_of (other_array array) general.old auxiliary.old }
+    ensures changed { FnOnceReturnsAtMut F.FnOnce change (array_of array general.old auxiliary.old) result
+        (array_of array general.new auxiliary.new) }
+    ensures other { array_of (other_array array) general.new auxiliary.new
+        ≡ array_of (other_array array) general.old auxiliary.old }
 {
     match array {
         FlashArray::GeneralArray => change(general),
@@ -80,10 +79,7 @@ impl LentDevice<'_> {
     fn read(&self, place: Place) -> Answer
         ensures { result ≡ read_answer (read_word (words_in place.array (as_device self.now)) place.index) }
     {
-        let flash: &[u32] = match place.array {
-            FlashArray::GeneralArray => self.general,
-            FlashArray::AuxiliaryArray => self.auxiliary,
-        };
+        let flash = array_of(place.array, self.general, self.auxiliary);
         flash::read_word(flash, place.index as usize).map_or(Answer::Zeroed, Answer::Done)
     }
 
@@ -100,7 +96,7 @@ impl LentDevice<'_> {
         if programmed.is_ok() {
             self.latches = BLANK_LATCHES;
         }
-        row_answer(programmed)
+        programmed.map_or(Answer::NotStarted, Answer::Done)
     }
 
     // The page that holds the place.
@@ -112,7 +108,7 @@ impl LentDevice<'_> {
         let erased = change_array(place.array, self.general, self.auxiliary, |flash| {
             flash::erase_page(flash, page, index)
         });
-        erase_answer(erased)
+        erased.map_or(Answer::NotStarted, |()| Answer::Done(0))
     }
 
     fn store_fuse(&mut self, array: FlashArray, byte: u8) -> Answer

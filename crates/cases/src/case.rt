@@ -38,10 +38,10 @@ fn device(line: &[u8]) -> Option<State> {
 }
 
 fn byte(line: &[u8], start: usize) -> u8 {
-    (number(line, start, 2) % 0x100) as u8
+    (number(line, start, 2) % 256) as u8
 }
 
-// The number in these columns of a line, or in those of them that it has.
+// The number in these columns of a line, or in those of them that it has, in base 16.
 pub(crate) fn number(line: &[u8], start: usize, width: usize) -> u32 {
     line.iter()
         .skip(start)

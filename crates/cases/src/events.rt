@@ -5,10 +5,6 @@ use measure::ProgramAddress;
 use rules::Answer;
 use std::fmt;
 
-const FLOW_CHANGE: u32 = 2;
-
-const TABLE_READ: u32 = 4;
-
 // They stay numbers, since a line shows what the input says, a malformed event too.
 #[derive(Clone, Copy)]
 pub(crate) struct EventNumbers {
@@ -32,15 +28,15 @@ impl EventNumbers {
     // An odd target, an odd address, or a vector that is not there.
     fn malformed(self) -> Event {
         match self.kind {
-            FLOW_CHANGE => Event::FlowChange(ProgramAddress(self.a)),
-            TABLE_READ => Event::TableRead(ProgramAddress(self.a)),
+            2 => Event::FlowChange(ProgramAddress(self.a)),
+            4 => Event::TableRead(ProgramAddress(self.a)),
             _ => Event::Interrupt(self.a),
         }
     }
 
     pub(crate) fn value(self, answer: Answer) -> Value {
         match self.kind {
-            TABLE_READ => Value::Read(Word(answer.value())),
+            4 => Value::Read(Word(answer.value())),
             _ => Value::Count(answer.value()),
         }
     }
@@ -51,9 +47,9 @@ impl fmt::Display for EventNumbers {
         let EventNumbers { kind, a, b } = *self;
         match kind {
             1 => write!(f, "next"),
-            FLOW_CHANGE => write!(f, "flow change to {}", Word(a)),
+            2 => write!(f, "flow change to {}", Word(a)),
             3 => write!(f, "interrupt, vector {a}"),
-            TABLE_READ => write!(f, "table read at {}", Word(a)),
+            4 => write!(f, "table read at {}", Word(a)),
             5 => write!(f, "table write at {} of {}", Word(a), Word(b)),
             6 => write!(f, "program row at {}", Word(a)),
             7 => write!(f, "erase page at {}", Word(a)),

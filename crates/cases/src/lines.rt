@@ -10,7 +10,7 @@ use std::io::{Input, Read};
 // The most bytes of lines that are read.
 const ROOM: usize = 16384;
 
-// On the bench device. A line without an end is left out, and with it the room that the input leaves.
+// On the bench device. A last line without its end is left out; so is the unread rest, which has no line's end.
 pub(crate) fn show_input(rt: &(impl Print + Input)) -> io::Result<()> {
     let mut bench = WholeBench::new(Description::bench());
     let mut room = [0; ROOM];

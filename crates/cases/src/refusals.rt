@@ -14,17 +14,17 @@ const BAD_DESCRIPTION: [&str; 2] = [
 ];
 
 pub(crate) fn print(rt: &impl Print) -> io::Result<()> {
-    let bench = Description::bench();
+    let good = Description::bench();
     let bad = Description {
         page_words: 256,
-        ..bench
+        ..good
     };
     WholeBench::new(bad).obey_all(rt, &BAD_DESCRIPTION)?;
-    Bench::<SHORT_GENERAL, AUXILIARY_WORDS>::new(bench).obey_all(
+    Bench::<SHORT_GENERAL, AUXILIARY_WORDS>::new(good).obey_all(
         rt,
         &["000400 03 03 01 000000 000000 the GS array is a word short"],
     )?;
-    Bench::<GENERAL_WORDS, SHORT_AUXILIARY>::new(bench).obey_all(
+    Bench::<GENERAL_WORDS, SHORT_AUXILIARY>::new(good).obey_all(
         rt,
         &[
             "000400 03 03 03 0000FE 000000 the AS array is a word short, which is named before a malformed event",

@@ -3,7 +3,7 @@ use device::State;
 use rules::Answer;
 use std::fmt;
 
-// The low byte of a number, in two digits. A type for each width: of one with the width as a parameter, 16 to its power is unbounded.
+// The low byte of a number, in two digits. A type for each width: with the width as a parameter the format is no plainer.
 #[derive(Clone, Copy)]
 pub(crate) struct Byte(pub(crate) u32);
 

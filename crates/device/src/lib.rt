@@ -26,7 +26,7 @@ use rules::{Answer, Decision, Registers};
 mod lists;
 mod views;
 
-// What a device remembers besides its flash; its fields by themselves and no `Registers`, as callers set them.
+// What a device remembers besides its flash. Its fields and no `Registers`: new_state, device_of and numbers_of go by them.
 #[derive(Clone, Copy)]
 pub struct State {
     pub pc: ProgramAddress,
@@ -44,7 +44,7 @@ pub struct Stepped {
     pub state: State,
 }
 
-// What a run leaves besides the flash and the slots: its own answer, and how many events it answered.
+// What a run leaves besides the flash and the slots. Refused or not, document 01 gives it a number and a count, so no Result.
 #[derive(Clone, Copy)]
 pub struct Ran {
     pub answer: Answer,
@@ -78,21 +78,22 @@ impl State {
         ensures { StepPromise description (device_of self general.old auxiliary.old) event
             result.answer (device_of result.state general.new auxiliary.new) }
     {
+        // Each test as the definition has it, here and in run: one function of 7 and 8 needs a definition of its own.
         let refused = |answer| Stepped {
             answer,
             state: self,
         };
-        if !part::is_valid(description) {
+        if !description.is_valid() {
             return refused(Answer::BadDescription);
         }
-        if !part::is_sized(description, general.len(), auxiliary.len()) {
+        if !description.is_sized(general.len(), auxiliary.len()) {
             return refused(Answer::WrongFlashLength);
         }
         if !event::is_well_formed(event) {
             return refused(Answer::MalformedEvent);
         }
         let latches = self.latches;
-        // Made here and in `run`: of a function that makes it, the arrays' last values are not told.
+        // Built here and in run: from a function that built it, the check learns nothing of the arrays at exit.
         let mut device = LentDevice {
             registers: Registers::from(self),
             latches,
@@ -125,10 +126,10 @@ impl State {
             count: 0,
             state: self,
         };
-        if !part::is_valid(description) {
+        if !description.is_valid() {
             return refused(Answer::BadDescription);
         }
-        if !part::is_sized(description, general.len(), auxiliary.len()) {
+        if !description.is_sized(general.len(), auxiliary.len()) {
             return refused(Answer::WrongFlashLength);
         }
         if !lists::is_good_list(list.len(), slots.len()) {
@@ -188,7 +189,7 @@ fn decided(device: &LentDevice, description: Description, event: Event) -> Decis
     rules::decide(description, device.registers, vectors, event)
 }
 
-// A well-formed event on a good device: decided, then carried out.
+// A well-formed event on a good device: decided, then carried out. The description stays beside: a Device has none.
 #[tactic(auto, unfolding(crate::specs::OneEvent::event_on))]
 fn event_on(device: &mut LentDevice, description: Description, event: Event) -> Answer
     ensures { Leaves result device.old device.new (event_on description (as_device device.old) event) }
@@ -207,8 +208,7 @@ pub fn page_view<'a>(
 ) -> &'a [u32]
     ensures { PageViewPromise description general.now auxiliary.now address result.now }
 {
-    let good = part::is_valid(description)
-        & part::is_sized(description, general.len(), auxiliary.len());
+    let good = description.is_valid() & description.is_sized(general.len(), auxiliary.len());
     let even = address.0 % 2 == 0;
     if !(good & even) {
         return &general[..0];
@@ -217,6 +217,6 @@ pub fn page_view<'a>(
         description.page_words as usize,
         general,
         auxiliary,
-        part::place_at(description, address),
+        description.place_at(address),
     )
 }

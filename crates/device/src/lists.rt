@@ -47,7 +47,7 @@ fn event_at(list: &[u32], index: usize) -> Option<Event>
     event::decode(list[3 * index], list[3 * index + 1], list[3 * index + 2])
 }
 
-// The two slots of an event.
+// The two slots of an event, by its index: of slots lent in twos the library does not say what they end as.
 fn store(slots: &mut [u32], index: usize, answer: Answer)
     requires { 2 * index + 1 < length slots.old }
     ensures { slots.new ≡ stored slots.old index answer }

@@ -3,7 +3,7 @@ ghost use Rattle.std.specs.Prelude.{◌≡◌, take};
 ghost use Rattle.part.specs.Places.{vector_words};
 ghost use Rattle.device.specs.PageView.{page_in};
 
-use part::{FlashArray, Place};
+use part::Place;
 
 const VECTORS: usize = part::VECTOR_WORDS as usize;
 
@@ -27,9 +27,6 @@ pub(crate) fn page_in<'a>(
     let Some(place) = place else {
         return &general[..0];
     };
-    let flash = match place.array {
-        FlashArray::GeneralArray => general,
-        FlashArray::AuxiliaryArray => auxiliary,
-    };
+    let flash = carrying::array_of(place.array, general, auxiliary);
     flash::page(flash, page, place.index as usize)
 }

@@ -58,7 +58,7 @@ fn given(good: bool, event: Event) -> Option<Event>
     good.then_some(event)
 }
 
-// What three numbers of a list say, where they say an event: numbers, since C lends lists of them.
+// What three numbers of a list say; None where they say no event. Numbers, as C lends them, and a line for each of the paper's.
 #[tactic(auto, using(crate::proofs::Laws::given_byte), unfolding(crate::specs::Events::decode))]
 pub fn decode(kind: u32, a: u32, b: u32) -> Option<Event>
     ensures { DecodePromise kind a b result }

@@ -1,5 +1,6 @@
 -- The laws of `specs/`: what fits, and what a row and a range hold while they are written. Assumes nothing.
-use Prim.Native.Nat.{ℕ, zero, suc, ◌+◌, ◌-◌, ◌*◌, ◌<◌, ◌≤◌}
+use Prim.Native.Nat.{ℕ, zero, suc, ◌+◌, ◌-◌, ◌*◌, ◌<◌, ◌≤◌, min}
+use Rattle.std.proofs.Math.Nat.{zero-min, min-zero, suc-min-suc}
 use mathlib.Core.Path.{◌≡◌, refl, sym, ap, ap₂, ◌∙◌}
 use mathlib.Core.Bool.{true, false}
 use mathlib.Core.List.{List, [], ◌∷◌, ◌++◌, zip_with, append-nil, append_assoc}
@@ -89,11 +90,11 @@ module _ (f : ℕ → ℕ → ℕ) where
   total_more (suc i) (x ∷ old) (y ∷ latches) h k =
       add_assoc (f x y) _ _ ∙ ap (λ (n : ℕ). f x y + n) (total_more i old latches (le_of_suc-le-suc h) (le_of_suc-le-suc k))
 
-  pub length_zip : (old latches : List ℕ) → length old ≡ length latches → length (zip_with f old latches) ≡ length old
+  pub length_zip : (old latches : List ℕ) → length (zip_with f old latches) ≡ min (length old) (length latches)
   unfolding zip_with
-  length_zip [] latches e = refl
-  length_zip (x ∷ old) [] e = absurd (not-suc-le-zero (le_of_eq e))
-  length_zip (x ∷ old) (y ∷ latches) e = ap suc (length_zip old latches (omega arith))
+  length_zip [] latches = sym (zero-min (length latches))
+  length_zip (x ∷ old) [] = sym (min-zero (suc (length old)))
+  length_zip (x ∷ old) (y ∷ latches) = ap suc (length_zip old latches) ∙ sym (suc-min-suc (length old) (length latches))
 
 -- ---- the row, a word at a time
 
@@ -120,7 +121,7 @@ module _ (old latches : List ℕ) (a : length old ≡ 64) (b : length latches �
 
   pub length_programmed : length (programmed_words old latches) ≡ 64
   unfolding programmed_words
-  length_programmed = length_zip programmed_word old latches (a ∙ sym b) ∙ a
+  length_programmed = length_zip programmed_word old latches ∙ rw (a, b) refl
 
 -- ---- what an operation leaves of the whole array
 

@@ -47,6 +47,7 @@ fn start_of(size: usize, index: usize) -> usize
     }
 }
 
+// The word at an index; None past the end.
 #[tactic(auto, unfolding(crate::specs::Operations::read_word))]
 pub fn read_word(flash: &[u32], index: usize) -> Option<u32>
     ensures { ReadWordPromise flash.now index result }

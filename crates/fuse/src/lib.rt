@@ -48,7 +48,7 @@ fn mask(keys: bool) -> u8
     if keys { 0x33 } else { 0x03 }
 }
 
-// Keys beside each byte: they are the part's and it is the device's, and one struct of both would be made at each call.
+// The byte as the part stores it. Keys by themselves here and below: they are the part's, while the byte is the device's.
 #[tactic(auto, using(crate::proofs::Laws::stored_is))]
 pub fn stored_byte(keys: bool, byte: u8) -> u8
     ensures { StoredBytePromise keys byte result }

@@ -27,7 +27,7 @@ impl ProgramAddress {
 }
 
 impl InstructionLocation {
-    // The program address at which this location starts, where twice the location is no more than one can hold.
+    // The program address at which this location starts; None where twice the location is more than an address can hold.
     #[tactic(auto, unfolding(crate::specs::Measures::address_of))]
     pub fn address(self) -> Option<ProgramAddress>
         ensures { AddressPromise self result }

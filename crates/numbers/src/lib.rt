@@ -17,7 +17,7 @@ const REGISTERS: usize = 5;
 
 pub const STATE: usize = REGISTERS + ROW_WORDS;
 
-// A function and no `From`, as are the others: all their types are of other crates.
+// Functions and no `From`, here and below: Description and State are of other crates.
 pub fn description_of(numbers: &[u32; DESCRIPTION]) -> Description
     ensures { DescriptionOfPromise numbers.now result }
 {
@@ -36,13 +36,15 @@ pub fn state_of(numbers: &[u32; STATE]) -> State
     ensures { StateOfPromise numbers.now result }
 {
     let [pc, iopuwr, stopped, fgs, fas, ..] = *numbers;
+    // The latches are the last numbers: the length says how many.
+    let latches = *numbers.last_chunk().unwrap();
     State {
         pc: ProgramAddress(pc),
         iopuwr: iopuwr != 0,
         stopped: stopped != 0,
-        fgs: (fgs & 0xff) as u8,
-        fas: (fas & 0xff) as u8,
-        latches: *numbers.last_chunk().unwrap(),
+        fgs: (fgs % 256) as u8,
+        fas: (fas % 256) as u8,
+        latches,
     }
 }
 

@@ -2,7 +2,7 @@
 #![tactic(auto)]
 
 ghost use Rattle.std.specs.Prelude.{◌≡◌, ◌*◌};
-ghost use Rattle.part.specs.Descriptions.{good_vector};
+ghost use Rattle.part.specs.Descriptions.{good_vector, general_words, auxiliary_words};
 ghost use Rattle.part.specs.Places.{auxiliary_end, auxiliary_first, place_of, code_in, byte_of};
 ghost use Rattle.part.specs.Promises.{
   BenchPromise,
@@ -29,7 +29,7 @@ pub struct Description {
     pub auxiliary_pages: u32,
     // Whether the fuse bytes have key bits.
     pub keys: bool,
-    // Where an interrupt goes while the Auxiliary Segment's code runs; no option, as refusal 7 speaks of a vector without AS pages.
+    // Where an interrupt goes while the Auxiliary Segment's code runs. No option: refusal 7 knows a vector without AS pages.
     pub auxiliary_vector: ProgramAddress,
 }
 
@@ -47,6 +47,23 @@ pub struct Place {
     pub index: u32,
 }
 
+pub const VECTOR_WORDS: u32 = 256;
+
+#[tactic(auto, using(crate::proofs::Laws::product_lt))]
+fn words(pages: u32, page: u32) -> usize
+    ensures { result ≡ pages * page }
+{
+    (pages as usize) * (page as usize)
+}
+
+// The location after the last of the Auxiliary Segment.
+fn auxiliary_end() -> usize
+    ensures { result ≡ auxiliary_end }
+{
+    let last = ProgramAddress(0x7FFFFE).location();
+    last.0 as usize + 1
+}
+
 impl Description {
     pub fn bench() -> Self
         ensures { BenchPromise result }
@@ -59,97 +76,99 @@ impl Description {
             auxiliary_vector: ProgramAddress(0x7FFFEA),
         }
     }
-}
 
-pub fn has_auxiliary(description: Description) -> bool
-    ensures { HasAuxiliaryPromise description result }
-{
-    description.auxiliary_pages != 0
-}
+    pub fn has_auxiliary(self) -> bool
+        ensures { HasAuxiliaryPromise self result }
+    {
+        self.auxiliary_pages != 0
+    }
 
-fn good_vector(description: Description) -> bool
-    ensures { result ≡ good_vector description }
-{
-    let vector = description.auxiliary_vector.0;
-    if has_auxiliary(description) {
-        (vector % 2 == 0) & (0x7FFFC0..=0x7FFFFE).contains(&vector)
-    } else {
-        vector == 0
+    fn has_good_vector(self) -> bool
+        ensures { result ≡ good_vector self }
+    {
+        let vector = self.auxiliary_vector.0;
+        if self.has_auxiliary() {
+            (vector % 2 == 0) & (0x7FFFC0..=0x7FFFFE).contains(&vector)
+        } else {
+            vector == 0
+        }
+    }
+
+    #[tactic(auto, unfolding(crate::specs::Descriptions::is_valid))]
+    pub fn is_valid(self) -> bool
+        ensures { IsValidPromise self result }
+    {
+        let page = matches!(self.page_words, 512 | 1024);
+        let general = (1..=64).contains(&self.general_pages);
+        let auxiliary = self.auxiliary_pages <= 16;
+        page & general & auxiliary & self.has_good_vector()
+    }
+
+    fn general_words(self) -> usize
+        ensures { result ≡ general_words self }
+    {
+        words(self.general_pages, self.page_words)
+    }
+
+    fn auxiliary_words(self) -> usize
+        ensures { result ≡ auxiliary_words self }
+    {
+        words(self.auxiliary_pages, self.page_words)
+    }
+
+    // Whether the description's arrays have these lengths.
+    pub fn is_sized(self, general: usize, auxiliary: usize) -> bool
+        ensures { IsSizedPromise self general auxiliary result }
+    {
+        (general == self.general_words()) & (auxiliary == self.auxiliary_words())
+    }
+
+    fn auxiliary_first(self) -> usize
+        ensures { result ≡ auxiliary_first self }
+    {
+        auxiliary_end().saturating_sub(self.auxiliary_words())
+    }
+
+    #[tactic(auto, unfolding(crate::specs::Places::place_of))]
+    fn place_of(self, location: InstructionLocation) -> Option<Place>
+        ensures { result ≡ place_of self location }
+    {
+        let index = location.0 as usize;
+        if auxiliary_end() <= index {
+            return None;
+        }
+        if index < self.general_words() {
+            return Some(Place {
+                array: FlashArray::GeneralArray,
+                index: location.0,
+            });
+        }
+        let from_first = index.checked_sub(self.auxiliary_first())?;
+        Some(Place {
+            array: FlashArray::AuxiliaryArray,
+            index: from_first as u32,
+        })
+    }
+
+    // Where an address lies; None where it is unimplemented.
+    pub fn place_at(self, address: ProgramAddress) -> Option<Place>
+        ensures { PlaceAtPromise self address result }
+    {
+        self.place_of(address.location())
+    }
+
+    // Whose code runs at a PC, any 32-bit number; None where it is not executable.
+    #[tactic(auto, unfolding(crate::specs::Places::running_at))]
+    pub fn running_at(self, pc: ProgramAddress) -> Option<Origin>
+        ensures { RunningAtPromise self pc result }
+    {
+        if pc.0 % 2 != 0 {
+            return None;
+        }
+        running_in(pc, self.place_at(pc)?)
     }
 }
 
-#[tactic(auto, unfolding(crate::specs::Descriptions::is_valid))]
-pub fn is_valid(description: Description) -> bool
-    ensures { IsValidPromise description result }
-{
-    let page = matches!(description.page_words, 512 | 1024);
-    let general = (1..=64).contains(&description.general_pages);
-    let auxiliary = description.auxiliary_pages <= 16;
-    page & general & auxiliary & good_vector(description)
-}
-
-#[tactic(auto, using(crate::proofs::Laws::product_lt))]
-fn words(pages: u32, page: u32) -> usize
-    ensures { result ≡ pages * page }
-{
-    (pages as usize) * (page as usize)
-}
-
-// Whether the description's arrays have these lengths.
-pub fn is_sized(description: Description, general: usize, auxiliary: usize) -> bool
-    ensures { IsSizedPromise description general auxiliary result }
-{
-    (general == words(description.general_pages, description.page_words))
-        & (auxiliary == words(description.auxiliary_pages, description.page_words))
-}
-
-pub const VECTOR_WORDS: u32 = 256;
-
-// The location after the last of the Auxiliary Segment.
-fn auxiliary_end() -> usize
-    ensures { result ≡ auxiliary_end }
-{
-    let last = ProgramAddress(0x7FFFFE).location();
-    last.0 as usize + 1
-}
-
-fn auxiliary_first(description: Description) -> usize
-    ensures { result ≡ auxiliary_first description }
-{
-    let auxiliary = words(description.auxiliary_pages, description.page_words);
-    let end = auxiliary_end();
-    if auxiliary <= end { end - auxiliary } else { 0 }
-}
-
-#[tactic(auto, unfolding(crate::specs::Places::place_of))]
-fn place_of(description: Description, location: InstructionLocation) -> Option<Place>
-    ensures { result ≡ place_of description location }
-{
-    let index = location.0 as usize;
-    if auxiliary_end() <= index {
-        return None;
-    }
-    if index < words(description.general_pages, description.page_words) {
-        return Some(Place {
-            array: FlashArray::GeneralArray,
-            index: location.0,
-        });
-    }
-    let from_first = index.checked_sub(auxiliary_first(description))?;
-    Some(Place {
-        array: FlashArray::AuxiliaryArray,
-        index: from_first as u32,
-    })
-}
-
-// Where an address lies; nowhere, if it is unimplemented.
-pub fn place_at(description: Description, address: ProgramAddress) -> Option<Place>
-    ensures { PlaceAtPromise description address result }
-{
-    place_of(description, address.location())
-}
-
-// By the paper's word, as its promise names it.
 pub fn is_implemented(place: Option<Place>) -> bool
     ensures { IsImplementedPromise place result }
 {
@@ -175,17 +194,6 @@ fn running_in(pc: ProgramAddress, place: Place) -> Option<Origin>
     }
 }
 
-// Whose code runs at a PC, any 32-bit number; nobody's, where it is not executable.
-#[tactic(auto, unfolding(crate::specs::Places::running_at))]
-pub fn running_at(description: Description, pc: ProgramAddress) -> Option<Origin>
-    ensures { RunningAtPromise description pc result }
-{
-    if pc.0 % 2 != 0 {
-        return None;
-    }
-    running_in(pc, place_at(description, pc)?)
-}
-
 pub fn from_general(origin: Origin) -> bool
     ensures { FromGeneralPromise origin result }
 {
@@ -207,9 +215,8 @@ fn byte_of(fgs: u8, fas: u8, segment: Segment) -> u8
     ensures { result ≡ byte_of fgs fas segment }
 {
     match segment {
-        Segment::General => fgs,
+        Segment::General | Segment::Vectors => fgs,
         Segment::Auxiliary => fas,
-        Segment::Vectors => fgs,
     }
 }
 

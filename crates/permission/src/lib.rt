@@ -50,7 +50,7 @@ const ALLOWED: [[bool; 12]; 4] = [
     [Y, Y, Y, Y, Y, Y, N, N, Y, Y, Y, Y],
 ];
 
-// This number and the columns' are by cases, as the printed table has them.
+// The row, and below the columns, by cases as the paper prints them.
 fn row_number(operation: Operation, origin: Origin) -> usize
     ensures { result ≡ row_number operation origin }
 {

@@ -30,7 +30,7 @@ impl Code {
         ensures { result ≡ next_rule self.description self.registers }
     {
         let target = ProgramAddress(self.registers.pc.0 + 2);
-        if part::is_implemented(part::place_at(self.description, target)) {
+        if part::is_implemented(self.description.place_at(target)) {
             Decision::MoveTo(target)
         } else {
             Decision::Trap
@@ -42,7 +42,7 @@ impl Code {
         ensures { result ≡ is_shut self.description self.registers self.origin target }
     {
         let from_general = part::from_general(self.origin);
-        let into_auxiliary = part::is_auxiliary(part::place_at(self.description, target));
+        let into_auxiliary = part::is_auxiliary(self.description.place_at(target));
         let high = fuse::level_of(self.description.keys, self.registers.fas).is_high();
         let location = target.location();
         let access_area = ProgramAddress(0x7FFFC0).location();
@@ -55,7 +55,7 @@ impl Code {
     pub(crate) fn flow_change(self, target: ProgramAddress) -> Decision
         ensures { result ≡ flow_change self.description self.registers self.origin target }
     {
-        if !part::is_implemented(part::place_at(self.description, target)) {
+        if !part::is_implemented(self.description.place_at(target)) {
             return Decision::Trap;
         }
         if self.is_shut(target) {
@@ -64,7 +64,7 @@ impl Code {
         Decision::MoveTo(target)
     }
 
-    // With origin GS.
+    // By the word of a vector.
     #[tactic(auto, unfolding(crate::specs::Rules::to_vector))]
     fn to_vector(self, vectors: &[u32], vector: u32) -> Decision
         requires { self.origin ≡ Origin.FromGeneral }

@@ -15,7 +15,7 @@ mod flow;
 mod protection;
 mod words;
 
-// What the student sees.
+// What the student sees. One enum and no Result: number_of, value_of and answer_again go by the paper's ten answers.
 #[derive(Clone, Copy)]
 pub enum Answer {
     // With the word read, the bits not set, or 0.
@@ -78,7 +78,7 @@ struct Code {
 }
 
 impl Answer {
-    // The paper's number of the answer.
+    // The paper's number of the answer, by cases as its table has them.
     pub fn number(self) -> u32
         ensures { NumberPromise self result }
     {
@@ -158,7 +158,7 @@ pub fn decide(
     if registers.stopped {
         return Decision::Refuse(Answer::Stopped);
     }
-    match part::running_at(description, registers.pc) {
+    match description.running_at(registers.pc) {
         None => Decision::Trap,
         Some(origin) => {
             let code = Code {

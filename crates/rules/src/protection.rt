@@ -47,7 +47,7 @@ impl Code {
     pub(crate) fn erase_auxiliary(self) -> Decision
         ensures { result ≡ erase_auxiliary self.description self.origin }
     {
-        let test = part::from_general(self.origin) & part::has_auxiliary(self.description);
+        let test = part::from_general(self.origin) & self.description.has_auxiliary();
         crate::or_refuse(
             test,
             Decision::EraseWhole(FlashArray::AuxiliaryArray),
@@ -75,7 +75,7 @@ impl Code {
         ensures { result ≡ program_fas self.description self.registers byte }
     {
         let stored = fuse::stored_byte(self.description.keys, byte);
-        let test = part::has_auxiliary(self.description)
+        let test = self.description.has_auxiliary()
             & is_open(self.description.keys, self.registers.fgs)
             & is_open(self.description.keys, self.registers.fas);
         crate::or_refuse(

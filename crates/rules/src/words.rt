@@ -47,7 +47,7 @@ impl Code {
     pub(crate) fn table_read(self, address: ProgramAddress) -> Decision
         ensures { result ≡ table_read self.description self.registers self.origin address }
     {
-        match part::place_at(self.description, address) {
+        match self.description.place_at(address) {
             None => Decision::Refuse(Answer::Zeroed),
             Some(place) => crate::or_refuse(
                 self.may(Operation::Read, part::VECTOR_WORDS, place),
@@ -62,7 +62,7 @@ impl Code {
     pub(crate) fn change_at(self, change: Change, address: ProgramAddress) -> Decision
         ensures { result ≡ change_at change self.description self.registers self.origin address }
     {
-        match part::place_at(self.description, address) {
+        match self.description.place_at(address) {
             None => Decision::Refuse(Answer::NotStarted),
             Some(place) => crate::or_refuse(
                 self.may(Operation::Program, self.description.page_words, place),

@@ -6,30 +6,19 @@ use permission::{Operation, Origin, Segment, Target};
 use std::io;
 
 fn main(rt: HostRuntime) -> io::Result<()> {
-    for operation in [Operation::Program, Operation::Read] {
-        for origin in [Origin::FromAuxiliary, Origin::FromGeneral] {
+    for (operation_name, operation) in [
+        ("program", Operation::Program),
+        ("read", Operation::Read),
+    ] {
+        for (origin_name, origin) in [("AS", Origin::FromAuxiliary), ("GS", Origin::FromGeneral)] {
+            print!(rt; "{operation_name},{origin_name}")?;
             print_row(&rt, operation, origin)?;
         }
     }
     Ok(())
 }
 
-fn operation_name(operation: Operation) -> &'static str {
-    match operation {
-        Operation::Program => "program",
-        Operation::Read => "read",
-    }
-}
-
-fn origin_name(origin: Origin) -> &'static str {
-    match origin {
-        Origin::FromAuxiliary => "AS",
-        Origin::FromGeneral => "GS",
-    }
-}
-
 fn print_row(rt: &impl Print, operation: Operation, origin: Origin) -> io::Result<()> {
-    print!(rt; "{},{}", operation_name(operation), origin_name(origin))?;
     for segment in [Segment::General, Segment::Auxiliary, Segment::Vectors] {
         for level in [Level::None, Level::High] {
             for protection in [WriteProtection::Writable, WriteProtection::Protected] {
