@@ -22,7 +22,7 @@ use measure::ProgramAddress;
 use part::{FlashArray, Place};
 use rules::{Answer, Change, Decision, Registers};
 
-// A device besides its description, with the two flash arrays that it was lent.
+// A device besides its description. Its arrays by themselves: of a struct of both, `step` and `run` know no last values.
 #[derive(Drop)]
 pub struct LentDevice<'a> {
     pub general: &'a mut [u32],

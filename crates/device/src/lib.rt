@@ -26,7 +26,7 @@ use rules::{Answer, Decision, Registers};
 mod lists;
 mod views;
 
-// What a device remembers besides its flash. Its fields and no `Registers`: new_state, device_of and numbers_of go by them.
+// What a device remembers besides its flash. Its fields are what callers set, as README does, so no `Registers` inside.
 #[derive(Clone, Copy)]
 pub struct State {
     pub pc: ProgramAddress,
@@ -37,7 +37,7 @@ pub struct State {
     pub latches: [u32; ROW_WORDS],
 }
 
-// What one event leaves besides the flash.
+// What one event leaves besides the flash. Refused or not, it has a state, so no Result.
 #[derive(Clone, Copy)]
 pub struct Stepped {
     pub answer: Answer,
@@ -78,11 +78,11 @@ impl State {
         ensures { StepPromise description (device_of self general.old auxiliary.old) event
             result.answer (device_of result.state general.new auxiliary.new) }
     {
-        // Each test as the definition has it, here and in run: one function of 7 and 8 needs a definition of its own.
         let refused = |answer| Stepped {
             answer,
             state: self,
         };
+        // Each test as the definition has it, here and in run: one function of 7 and 8 needs a definition of its own.
         if !description.is_valid() {
             return refused(Answer::BadDescription);
         }
@@ -107,7 +107,7 @@ impl State {
         }
     }
 
-    // A list of events, three numbers each, up to its end, the limit, or the first answer 3 or 4; two slots take each answer.
+    // A list up to its end, the limit, or the first answer 3 or 4: three numbers an event and two slots an answer, as C lends them.
     #[tactic(auto, unfolding(crate::specs::Lists::run))]
     pub fn run(
         self,

@@ -64,7 +64,7 @@ fn program_word(word: &mut u32, latch: u32) -> u32
     measure::bits_not_set(old, latch)
 }
 
-// All words of a row, from their latches: programmed in place; the value is the row's bits not set.
+// All words of a row, from their latches, by their places: of a `zip` that changes one side the loop knows too little.
 #[tactic(auto, using(measure::proofs::Laws::not_set_le, crate::proofs::Laws::row_more, crate::proofs::Laws::count_more))]
 fn program_words(row: &mut [u32], latches: &[u32; ROW_WORDS]) -> u32
     requires { length row.old ≡ row_words }
@@ -99,7 +99,7 @@ fn blank_row(row: &mut [u32])
     row.fill(BLANK);
 }
 
-// Every word becomes blank: row by row, and then the words that are left.
+// Every word becomes blank, row by row: what `chunks_exact_mut` leaves of its slice the library does not say.
 #[tactic(auto, using(crate::proofs::Laws::filled_row))]
 pub fn erase_all(words: &mut [u32])
     ensures { EraseAllPromise words.old words.new }

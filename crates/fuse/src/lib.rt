@@ -48,7 +48,7 @@ fn mask(keys: bool) -> u8
     if keys { 0x33 } else { 0x03 }
 }
 
-// The byte as the part stores it. Keys by themselves here and below: they are the part's, while the byte is the device's.
+// The byte as the part stores it. Keys by themselves here and below: no description is known yet.
 #[tactic(auto, using(crate::proofs::Laws::stored_is))]
 pub fn stored_byte(keys: bool, byte: u8) -> u8
     ensures { StoredBytePromise keys byte result }

@@ -17,7 +17,7 @@ fn write_unless_refused(number: u32, state: State, lent: &mut [u32; numbers::STA
     }
 }
 
-// A list of events on the device of these numbers; the result is the run's own answer.
+// A list of events on the device of these numbers, as C hands them in; the result is the run's own answer.
 #[unsafe(no_mangle)]
 pub extern "C" fn pinionclay_run(
     description: &[u32; numbers::DESCRIPTION],
@@ -46,7 +46,7 @@ pub extern "C" fn pinionclay_run(
     number
 }
 
-// One event, as a list of one, on the device of these numbers; the result is the event's answer.
+// One event, as a list of one, on the device of these numbers, as C hands them in; the result is the event's answer.
 #[unsafe(no_mangle)]
 pub extern "C" fn pinionclay_step(
     description: &[u32; numbers::DESCRIPTION],

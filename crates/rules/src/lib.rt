@@ -96,7 +96,7 @@ impl Answer {
         }
     }
 
-    // The paper's value of the answer.
+    // The paper's value of the answer, by cases as its table has them.
     #[tactic(auto, using(crate::proofs::Laws::no_value))]
     pub fn value(self) -> u32
         ensures { ValuePromise self result }
@@ -142,7 +142,7 @@ impl Code {
     }
 }
 
-// What an event comes to: power-on, then a stopped device, then a PC that is not executable, then the event's own rule.
+// What an event comes to, in the paper's order of checks. Both by themselves, as it is public: a Code is made only where a PC is executable.
 #[tactic(auto, using(crate::proofs::Laws::no_power_on), unfolding(crate::specs::Rules::decide, crate::specs::Rules::rule_from))]
 pub fn decide(
     description: Description,

@@ -12,26 +12,27 @@ ghost use Rattle.rules.specs.Rules.{
 use crate::{Answer, Code, Decision};
 use part::FlashArray;
 
-// Whether a new fuse byte would take the level from high to none or lift write protection.
-fn releases(keys: bool, old: u8, new: u8) -> bool
-    ensures { result ≡ releases_of keys old new }
-{
-    let was_high = fuse::level_of(keys, old).is_high();
-    let is_high = fuse::level_of(keys, new).is_high();
-    let was_protected = fuse::write_protection_of(old).is_protected();
-    let is_protected = fuse::write_protection_of(new).is_protected();
-    (was_high & !is_high) | (was_protected & !is_protected)
-}
-
-fn is_open(keys: bool, byte: u8) -> bool
-    ensures { result ≡ is_open keys byte }
-{
-    let high = fuse::level_of(keys, byte).is_high();
-    let protected = fuse::write_protection_of(byte).is_protected();
-    !high & !protected
-}
-
 impl Code {
+    // Whether a new fuse byte would take the level from high to none or lift write protection.
+    fn releases(self, old: u8, new: u8) -> bool
+        ensures { result ≡ releases_of self.description.keys old new }
+    {
+        let keys = self.description.keys;
+        let was_high = fuse::level_of(keys, old).is_high();
+        let is_high = fuse::level_of(keys, new).is_high();
+        let was_protected = fuse::write_protection_of(old).is_protected();
+        let is_protected = fuse::write_protection_of(new).is_protected();
+        (was_high & !is_high) | (was_protected & !is_protected)
+    }
+
+    fn is_open(self, byte: u8) -> bool
+        ensures { result ≡ is_open self.description.keys byte }
+    {
+        let high = fuse::level_of(self.description.keys, byte).is_high();
+        let protected = fuse::write_protection_of(byte).is_protected();
+        !high & !protected
+    }
+
     // Rule 9.
     pub(crate) fn erase_general(self) -> Decision
         ensures { result ≡ erase_general self.origin }
@@ -61,7 +62,7 @@ impl Code {
         ensures { result ≡ program_fgs self.description self.registers byte }
     {
         let stored = fuse::stored_byte(self.description.keys, byte);
-        let test = !releases(self.description.keys, self.registers.fgs, stored);
+        let test = !self.releases(self.registers.fgs, stored);
         crate::or_refuse(
             test,
             Decision::StoreFuse(FlashArray::GeneralArray, stored),
@@ -76,8 +77,8 @@ impl Code {
     {
         let stored = fuse::stored_byte(self.description.keys, byte);
         let test = self.description.has_auxiliary()
-            & is_open(self.description.keys, self.registers.fgs)
-            & is_open(self.description.keys, self.registers.fas);
+            & self.is_open(self.registers.fgs)
+            & self.is_open(self.registers.fas);
         crate::or_refuse(
             test,
             Decision::StoreFuse(FlashArray::AuxiliaryArray, stored),
