@@ -198,7 +198,7 @@ fn event_on(device: &mut LentDevice, description: Description, event: Event) -> 
     device.carry_out(description.page_words as usize, decision)
 }
 
-// The lecturer's view of the page that holds an address: a part of whichever array has it, or the empty part of the first.
+// The lecturer's view of the page that holds an address, of arrays lent apart as document 01 has them; else the GS array's empty front.
 #[tactic(auto, unfolding(crate::specs::PageView::page_view))]
 pub fn page_view<'a>(
     description: Description,

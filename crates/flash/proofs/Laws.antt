@@ -1,7 +1,7 @@
 -- The laws of `specs/`: what fits, and what a row and a range hold while they are written. Assumes nothing.
 use Prim.Native.Nat.{ℕ, zero, suc, ◌+◌, ◌-◌, ◌*◌, ◌<◌, ◌≤◌, min}
 use Rattle.std.proofs.Math.Nat.{zero-min, min-zero, suc-min-suc}
-use mathlib.Core.Path.{◌≡◌, refl, sym, ap, ap₂, ◌∙◌}
+use mathlib.Core.Path.{◌≡◌, refl, sym, ap, ◌∙◌}
 use mathlib.Core.Bool.{true, false}
 use mathlib.Core.List.{List, [], ◌∷◌, ◌++◌, zip_with, append-nil, append_assoc}
 use native.Mathlib.Nat.{not-suc-le-zero, le_of_suc-le-suc, le_of_eq, add_assoc, zero-add, add-zero}
@@ -14,10 +14,10 @@ use lib.ListN.{length, take, drop, get_or, set, replicate, length-take, length-d
 use lib.Seq.{take_all, take_at, drop_at, drop-drop}
 use Rattle.measure.specs.Words.{programmed_word, bits_not_set}
 use Rattle.flash.specs.Parts.{blank, fits, start_of, part, with_part}
-use Rattle.flash.specs.Operations.{outcome, program_row_at, erase_range, programmed_words, total, row_not_set, page_of}
+use Rattle.flash.specs.Operations.{Outcome, outcome, outside_array, program_row_at, erase_range, programmed_words, total, row_not_set, page_of}
 use Rattle.flash.specs.Internals.{end_of, ProgramWordsPromise}
 use Rattle.flash.specs.declared.OutsideArray.{OutsideArray}
-use Rattle.std.specs.Prelude.{Result, Ok, Err}
+use Rattle.std.specs.Prelude.{Result, Ok, Err, if◌then◌else◌}
 use Rattle.measure.specs.Tests.{by_test}
 
 -- ---- what fits
@@ -123,44 +123,50 @@ module _ (old latches : List ℕ) (a : length old ≡ 64) (b : length latches �
   unfolding programmed_words
   length_programmed = length_zip programmed_word old latches ∙ rw (a, b) refl
 
--- ---- what an operation leaves of the whole array
+-- ---- what an operation on a part leaves of the whole array: it fits, or nothing changes
 
-module _ (flash : List ℕ) (first count : ℕ) where
-  pub not_erased : {result : Result Unit OutsideArray} {e : OutsideArray} → Err e ≡ end_of (length flash) first count → result ≡ Err e
-      → outcome result flash ≡ erase_range flash first count
-  unfolding erase_range
-  not_erased p q = rw (q, no_end (length flash) first count p) refl
+module _ {A : Type 0} (flash : List ℕ) (first count : ℕ) (answer : A) where
+  abbrev on_part : List ℕ → Outcome (Result A OutsideArray)
+  on_part new = if fits (length flash) first count then outcome (Ok answer) (with_part flash first new) else outcome (Err outside_array) flash
 
-  pub erased : {end : ℕ} {last : List ℕ} → Ok end ≡ end_of (length flash) first count
-      → last ≡ replicate (length (part flash first (end - first))) blank
-      → outcome (Ok tt) (put_mid first (end - first) flash last) ≡ erase_range flash first count
-  unfolding erase_range
-  erased {end} {last} p e =
+  pub outside : (new : List ℕ) {result : Result A OutsideArray} {e : OutsideArray} → Err e ≡ end_of (length flash) first count → result ≡ Err e
+      → outcome result flash ≡ on_part new
+  outside new p q = rw (q, no_end (length flash) first count p) refl
+
+  -- `of` says what became of the part's words, and how many they are still
+  inside : (of : List ℕ → List ℕ) {end : ℕ} {result : A} {last : List ℕ} → length (of (part flash first count)) ≡ count
+      → Ok end ≡ end_of (length flash) first count
+      → result ≡ answer
+      → last ≡ of (part flash first (end - first))
+      → outcome (Ok result) (put_mid first (end - first) flash last) ≡ on_part (of (part flash first count))
+  inside of {end} {result} {last} l p r e =
       let at = ends_at (length flash) first count p in
-      let inside = leb-true (first + count) (length flash) at.0 in
-      rw (at.0, at.1)
-      (ap (outcome (Ok tt))
-      (put_back flash first count inside (λ ws. replicate (length ws) blank) (length-replicate _ blank ∙ part_length flash first count inside) (rw at.1 at e)
-      ∙ rw (part_length flash first count inside)))
+      let fit = leb-true (first + count) (length flash) at.0 in
+      rw (at.0, at.1, r) (ap (outcome (Ok answer)) (put_back flash first count fit of l (rw at.1 at e)))
 
-module _ (flash latches : List ℕ) (first : ℕ) where
-  pub not_programmed : {result : Result ℕ OutsideArray} {e : OutsideArray} → Err e ≡ end_of (length flash) first 64 → result ≡ Err e
-      → outcome result flash ≡ program_row_at flash first latches
-  unfolding program_row_at
-  not_programmed p q = rw (q, no_end (length flash) first 64 p) refl
+-- the part's length, and the number of its words that the machine counts from its end
+part_fits : (flash : List ℕ) (first count : ℕ) {end : ℕ} → Ok end ≡ end_of (length flash) first count
+    → (length (part flash first count) ≡ count) × (end - first ≡ count)
+part_fits flash first count p =
+    let in_flash = end_in (length flash) first count p in (part_length flash first count in_flash.0, omega (arith, in_flash.1))
 
-  pub programmed : {end result : ℕ} {last : List ℕ} → length latches ≡ 64 → Ok end ≡ end_of (length flash) first 64
-      → ProgramWordsPromise (part flash first (end - first)) latches result last
-      → outcome (Ok result) (put_mid first (end - first) flash last) ≡ program_row_at flash first latches
-  unfolding program_row_at
-  programmed {end} {result} {last} b p words =
-      let at = ends_at (length flash) first 64 p in
-      let inside = leb-true (first + 64) (length flash) at.0 in
-      let done : ProgramWordsPromise (part flash first (first + 64 - first)) latches result last = rw at.1 at words in
-      rw (at.0, at.1)
-      (ap₂ (λ (n : ℕ) (ws : List ℕ). outcome {Answer = Result ℕ OutsideArray} (Ok n) ws)
-      (done.not_set ∙ rw (lent_count flash first 64 inside))
-      (put_back flash first 64 inside (λ ws. programmed_words ws latches) (length_programmed _ latches (part_length flash first 64 inside) b) done.words))
+pub erased : (flash : List ℕ) (first count : ℕ) {end : ℕ} {last : List ℕ} → Ok end ≡ end_of (length flash) first count
+    → last ≡ replicate (length (part flash first (end - first))) blank
+    → outcome (Ok tt) (put_mid first (end - first) flash last) ≡ erase_range flash first count
+unfolding erase_range
+erased flash first count p e =
+    let fit = part_fits flash first count p in
+    inside flash first count tt (λ ws. replicate (length ws) blank) (length-replicate _ blank ∙ fit.0) p refl e ∙ rw fit.0 refl
+
+pub programmed : (flash latches : List ℕ) (first : ℕ) {end result : ℕ} {last : List ℕ} → length latches ≡ 64
+    → Ok end ≡ end_of (length flash) first 64
+    → ProgramWordsPromise (part flash first (end - first)) latches result last
+    → outcome (Ok result) (put_mid first (end - first) flash last) ≡ program_row_at flash first latches
+unfolding program_row_at
+programmed flash latches first b p words =
+    let fit = part_fits flash first 64 p in
+    inside flash first 64 (row_not_set (part flash first 64) latches) (λ ws. programmed_words ws latches) (length_programmed _ latches fit.0 b) p
+    (words.not_set ∙ rw fit.1 refl) words.words
 
 pub no_page : (flash : List ℕ) (size index : ℕ) → fits (length flash) (start_of size index) size ≡ false → page_of flash size index ≡ []
 unfolding page_of

@@ -1,4 +1,4 @@
--- Document 01, rules 4, 6 and 7, on one lent array: the word read, the row programmed, the range or page erased, the page.
+-- Document 01, rules 4, 6, 7 and 9, on one lent array: the word read, the row programmed, the range, the page or all erased, the page.
 -- Assumes nothing.
 use Rattle.std.specs.Prelude.{ℕ, ◌+◌, ltb, eqb, length, get_or, replicate, if◌then◌else◌, Option, Some, None, Result, Ok, Err}
 use mathlib.Core.List.{List, [], ◌∷◌, zip_with}
@@ -14,12 +14,13 @@ pub record Outcome (Answer : Type 0) : Type 0 where
 abbrev pub outcome : {Answer : Type 0} → Answer → List ℕ → Outcome Answer
 outcome a f = record { answer = a; flash = f }
 
--- what was asked for does not lie in the array
+-- a row, a range or a page that does not lie in the array, so that nothing changes
 abbrev pub outside_array : OutsideArray
 outside_array = record {}
 
 -- ---- reading
 
+-- rule 4: the word, its top byte ignored, where the array has it
 unfoldable pub read_word : List ℕ → ℕ → Option ℕ
 read_word flash index = if ltb index (length flash) then Some (word_of (get_or flash index 0)) else None
 

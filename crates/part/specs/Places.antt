@@ -25,7 +25,7 @@ auxiliary_end = (location_of (address 0x7FFFFE)).0 + 1
 abbrev pub auxiliary_first : Description → ℕ
 auxiliary_first d = auxiliary_end - auxiliary_words d
 
--- the word of an index in one of the arrays
+-- "Two lent flash arrays, GS and AS": the word of an index in one of them
 abbrev pub in_array : FlashArray → ℕ → Place
 in_array array n = record { array = array; index = n }
 
@@ -44,6 +44,7 @@ abbrev pub is_implemented : Option Place → Bool
 is_implemented None = false
 is_implemented (Some place) = true
 
+-- whether an array is AS's, and so whether a place lies in AS
 abbrev pub is_auxiliary_array : FlashArray → Bool
 is_auxiliary_array GeneralArray = false
 is_auxiliary_array AuxiliaryArray = true
@@ -63,7 +64,7 @@ abbrev pub code_in : ProgramAddress → FlashArray → ℕ → Option Origin
 code_in pc GeneralArray n = if eqb pc.0 0 || leb vector_words n then Some FromGeneral else None
 code_in pc AuxiliaryArray n = Some FromAuxiliary
 
--- "elsewhere": not executable, so no origin
+-- where there is no memory no code runs: not executable
 abbrev pub running_in : ProgramAddress → Option Place → Option Origin
 running_in pc None = None
 running_in pc (Some place) = code_in pc place.array place.index
@@ -83,6 +84,7 @@ abbrev pub segment_in : ℕ → FlashArray → ℕ → Segment
 segment_in vectors GeneralArray n = if ltb n vectors then Vectors else General
 segment_in vectors AuxiliaryArray n = Auxiliary
 
+-- the same of a place
 abbrev pub segment_of : ℕ → Place → Segment
 segment_of vectors place = segment_in vectors place.array place.index
 

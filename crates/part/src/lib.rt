@@ -116,7 +116,7 @@ impl Description {
         words(self.auxiliary_pages, self.page_words)
     }
 
-    // Whether the description's arrays have these lengths.
+    // Whether the description's arrays, lent apart as document 01 has them, have these lengths.
     pub fn is_sized(self, general: usize, auxiliary: usize) -> bool
         ensures { IsSizedPromise self general auxiliary result }
     {
@@ -220,7 +220,7 @@ fn byte_of(fgs: u8, fas: u8, segment: Segment) -> u8
     }
 }
 
-// The column of a segment in table 23-1, by the two fuse bytes.
+// The column of a segment in table 23-1, by the two fuse bytes; keys and bytes by themselves, as its promise names them.
 #[tactic(auto, unfolding(crate::specs::Places::target_of))]
 pub fn target_of(keys: bool, fgs: u8, fas: u8, segment: Segment) -> Target
     ensures { TargetOfPromise keys fgs fas segment result }

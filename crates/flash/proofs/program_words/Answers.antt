@@ -1,4 +1,4 @@
--- No word at first, and all words at the end. Assumes nothing.
+-- No word at first, and all words at the end; without these lines both goals stay open. Assumes nothing.
 use mathlib.Core.List.{zip_with}
 use Rattle.std.proofs.Common.{◌≡◌, ◌∙◌, refl, arith, rules}
 use Rattle.flash.specs.Operations.{total}

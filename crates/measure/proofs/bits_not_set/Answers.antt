@@ -1,4 +1,4 @@
--- The machine's count of ones is the definition's. Assumes nothing.
+-- The machine's count of ones is the definition's; no tactic finds the digits. Assumes nothing.
 use Rattle.measure.proofs.Laws.{not_set_is}
 use Rattle.measure.proofs.bits_not_set.Goals as goal
 

@@ -1,4 +1,4 @@
--- The machine's AND is the definition's. Assumes nothing.
+-- The machine's AND is the definition's; no tactic finds the digits. Assumes nothing.
 use Rattle.measure.proofs.Laws.{and_is}
 use Rattle.measure.proofs.programmed_word.Goals as goal
 

@@ -1,4 +1,4 @@
--- The table is the printed one, by one computation over all of it. Assumes nothing.
+-- The table is the printed one, by one computation over all of it; without, the search reaches its limits. Assumes nothing.
 use Rattle.std.specs.Prelude.{refl}
 use Rattle.permission.specs.Table.{row_of, printed}
 use Rattle.permission.proofs.Laws.{cell}

@@ -1,4 +1,4 @@
--- The event is the run of a list of one. Assumes nothing.
+-- The event is the run of a list of one; without, the search reaches its limits. Assumes nothing.
 use borrow.Author.Tests.{ne_eqb}
 use Rattle.pinionclay.proofs.Laws.{one_event}
 use Rattle.pinionclay.proofs.pinionclay_step.Goals as goal

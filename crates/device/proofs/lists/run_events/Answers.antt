@@ -1,4 +1,5 @@
--- One event more, from what `listed` promises; and the two ways in which a run ends. Assumes nothing.
+-- One event more, from what `listed` promises; and the two ways in which a run ends. Without, the search reaches its limits.
+-- Assumes nothing.
 use Rattle.std.proofs.Common.{◌≡◌, ◌∙◌, ap, sym, arith}
 use Rattle.carrying.specs.Lent.{as_device}
 use Rattle.device.proofs.Runs.{joined, joined_none, joined_start, trace_end, turn_on, turn_stop, list_whole, arrays_still}
