@@ -15,15 +15,22 @@ pub(crate) fn show_input(rt: &(impl Print + Input)) -> io::Result<()> {
     let mut bench = WholeBench::new(Description::bench());
     let mut room = [0; ROOM];
     io::copy(&mut rt.reader().take(ROOM as u64), &mut room.as_mut_slice())?;
-    for line in room.split_inclusive(|byte| *byte == b'\n') {
-        if let Some(line) = line.strip_suffix(b"\n") {
-            bench.obey(rt, line)?;
+    for whole in room.split_inclusive(|byte| *byte == b'\n') {
+        if let Some(line) = whole.strip_suffix(b"\n") {
+            match whole {
+                // Empty lines and texts stay here: the call would cost more than the line.
+                [b'\n'] => {}
+                // With its end, in one write.
+                [b'>', text @ ..] => rt.write_all(text)?,
+                _ => bench.obey(rt, line)?,
+            }
         }
     }
     Ok(())
 }
 
 impl<const GENERAL: usize, const AUXILIARY: usize> Bench<GENERAL, AUXILIARY> {
+    // Lines that are no texts.
     pub(crate) fn obey_all(&mut self, rt: &impl Print, lines: &[&str]) -> io::Result<()> {
         for line in lines {
             self.obey(rt, line.as_bytes())?;
@@ -31,14 +38,13 @@ impl<const GENERAL: usize, const AUXILIARY: usize> Bench<GENERAL, AUXILIARY> {
         Ok(())
     }
 
-    // A line that starts as none of these is a remark.
+    // Not for texts: show_input prints those. A line that starts in no way named here is a remark.
     fn obey(&mut self, rt: &impl Print, line: &[u8]) -> io::Result<()> {
         let Some((first, rest)) = line.split_first() else {
             return Ok(());
         };
         match *first {
             b'.' | b'0'..=b'9' => self.show(rt, Case::read(line))?,
-            b'>' => print_text(rt, rest)?,
             b'=' => self.put(case::number(rest, 0, 6), case::number(rest, 7, 6)),
             b'~' => self.fill(case::number(rest, 0, 6)),
             b'*' => marked::print(rt)?,
@@ -60,9 +66,4 @@ impl<const GENERAL: usize, const AUXILIARY: usize> Bench<GENERAL, AUXILIARY> {
         rt.write_all(case.title)?;
         println!(rt; " | {before} | {event} | {answer} | {value} | {pc}")
     }
-}
-
-fn print_text(rt: &impl Print, text: &[u8]) -> io::Result<()> {
-    rt.write_all(text)?;
-    println!(rt)
 }

@@ -6,13 +6,16 @@ use rules::Answer;
 use std::io;
 
 pub(crate) fn print(rt: &impl Print) -> io::Result<()> {
-    let count = (0..=255u8).filter(|byte| is_not_started(*byte)).count();
+    let mut bench = WholeBench::new(Description::bench());
+    let count = (0..=255u8)
+        .filter(|byte| is_not_started(&mut bench, *byte))
+        .count();
     println!(rt; "with FAS 0x33, program FAS is not started with {count} of the 256 bytes")
 }
 
-// Whether program FAS with this byte is not started, where FAS is 0x33.
-fn is_not_started(byte: u8) -> bool {
-    let mut bench = WholeBench::new(Description::bench());
+// Whether program FAS with this byte is not started, where FAS is 0x33. The bench is lent: a new one would be copied for each byte.
+fn is_not_started(bench: &mut WholeBench, byte: u8) -> bool {
+    bench.fill(flash::BLANK);
     bench.state = bench::device_at(0x000400, 0x03, 0x33);
     matches!(bench.step(Event::ProgramFas(byte)), Answer::NotStarted)
 }

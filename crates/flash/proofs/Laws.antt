@@ -7,14 +7,14 @@ use mathlib.Core.List.{List, [], ◌∷◌, ◌++◌, zip_with, append-nil, appe
 use native.Mathlib.Nat.{not-suc-le-zero, le_of_suc-le-suc, le_of_eq, add_assoc, zero-add, add-zero}
 use native.Mathlib.Numerals.{add-one}
 use native.Mathlib.Omega.{arith}
-use borrow.Author.Tests.{leb-true}
+use borrow.Author.Tests.{leb-true, le-leb}
 use borrow.Rule.Slice.PartMut.{put_mid}
 use lib.Dec.{eqb}
 use lib.ListN.{length, take, drop, get_or, set, replicate, length-take, length-drop, length-replicate, replicate-append-replicate, drop_of_length-le}
-use lib.Seq.{take_all, take_at, drop_at, drop-drop}
+use lib.Seq.{take_all, take_at, drop_at, drop-drop, drop-length}
 use Rattle.measure.specs.Words.{programmed_word, bits_not_set}
 use Rattle.flash.specs.Parts.{blank, fits, start_of, part, with_part}
-use Rattle.flash.specs.Operations.{Outcome, outcome, outside_array, program_row_at, erase_range, programmed_words, total, row_not_set, page_of}
+use Rattle.flash.specs.Operations.{Outcome, outcome, outside_array, program_row_at, erase_all, erase_range, programmed_words, total, row_not_set, page_of}
 use Rattle.flash.specs.Internals.{end_of, ProgramWordsPromise}
 use Rattle.flash.specs.declared.OutsideArray.{OutsideArray}
 use Rattle.std.specs.Prelude.{Result, Ok, Err, if◌then◌else◌}
@@ -171,6 +171,18 @@ programmed flash latches first b p words =
 pub no_page : (flash : List ℕ) (size index : ℕ) → fits (length flash) (start_of size index) size ≡ false → page_of flash size index ≡ []
 unfolding page_of
 no_page flash size index e = by_test (λ (page : List ℕ). page ≡ []) (eqb size 0) (λ _. refl) (λ _. rw e refl)
+
+-- ---- a whole array that was erased, as a range
+
+whole_range : (flash : List ℕ) → erase_range flash 0 (length flash) ≡ outcome (Ok tt) (erase_all flash)
+unfolding erase_range with_part
+whole_range flash =
+    let fit : 0 + length flash ≤ length flash = omega arith in
+    rw (le-leb (0 + length flash) (length flash) fit, length-replicate, zero-add (length flash), drop-length, append-nil)
+
+pub whole_erased : (flash : List ℕ) {answer : Result Unit OutsideArray} {exit : List ℕ} → outcome answer exit ≡ erase_range flash 0 (length flash)
+    → exit ≡ erase_all flash
+whole_erased flash e = ap (λ (o : Outcome (Result Unit OutsideArray)). o.flash) (e ∙ whole_range flash)
 
 -- ---- a part filled from its front
 
